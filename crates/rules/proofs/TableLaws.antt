@@ -1,0 +1,75 @@
+-- Paper 01, 'The matrix': the facts of Table 142-1, by one computed test over the whole table.
+--
+--   table-facts    69 lines of 12 entries, 828 in all, each from -1 to 255; 275 are not -1, of which 53 are in lines 58 to 69
+--   entry-range    so every entry of the code is from -1 to 255
+--   entry-fits     and fits 16 bits
+--   entry-as       within the table, no default stands for an entry
+use mathlib.Core.Path.{_≡_, refl}
+use mathlib.Core.Bool.{Bool, true, false}
+use mathlib.Core.List.{List, [], _∷_}
+use Prim.Native.Nat.{ℕ, zero, suc, _+_, _<_}
+use native.Mathlib.Omega.{arith}
+use native.Mathlib.Nat.{lt-trans, not-suc-le-zero, le-of-suc-le-suc}
+use lib.Dec.{T, ltb, eqb, ltb→lt, eqb→eq, lit<}
+use lib.IntN.{ℤ, pos, negsuc}
+use lib.ListN.{getD, length, drop}
+use lib.Signed.{mag}
+use mir.Syntax.{w16}
+use mir.Val.{SFits}
+use Rattle.rules.specs.Matrix.{entry}
+use Rattle.rules.specs.Table.{lines, fibre}
+use Rattle.rules.proofs.Tests.{both, both-left, both-right, all, all-at, all-in}
+
+abbrev pub inRange : ℤ → Bool
+inRange (pos a) = ltb a 256
+inRange (negsuc n) = eqb n 0
+
+abbrev present : List ℤ → ℕ
+present [] = 0
+present (pos a ∷ es) = suc (present es)
+present (negsuc n ∷ es) = present es
+
+-- f of each line, added up
+abbrev over : (List ℤ → ℕ) → List (List ℤ) → ℕ
+over f [] = 0
+over f (l ∷ ls) = f l + over f ls
+
+abbrev facts : List (List ℤ) → Bool
+facts ls =
+    both (all (all inRange) ls)
+    (both (all (λ l. eqb (length l) 12) ls)
+    (both (eqb (length ls) 69)
+    (both (eqb (over length ls) 828) (both (eqb (over present ls) 275) (eqb (over present (drop 57 ls)) 53)))))
+
+pub table-facts : T (facts lines)
+unfolding lines
+table-facts = tt
+
+each : T (all (all inRange) lines)
+unfolding lines
+each = tt
+
+pub entry-range : (i j : ℕ) → T (inRange (entry fibre i j))
+unfolding entry
+entry-range i j = all-at inRange (negsuc 0) tt (getD lines j []) (all-at (all inRange) [] tt lines each j) i
+
+small : (z : ℤ) → T (inRange z) → mag z < 256
+small (pos a) t = ltb→lt a 256 t
+small (negsuc n) t = omega (arith, eqb→eq n 0 t)
+
+pub entry-fits : (i j : ℕ) → SFits w16 (entry fibre i j)
+entry-fits i j = record { sfits = lt-trans (small (entry fibre i j) (entry-range i j)) (lit< tt) }
+
+twelve : (j : ℕ) → j < 69 → length (getD lines j []) ≡ 12
+unfolding lines
+twelve j h = eqb→eq _ 12 (all-in (λ l. eqb (length l) 12) [] lines tt j h)
+
+-- in a list's range its default does not matter
+getD-any : {A : Type 0} (xs : List A) (i : ℕ) (a b : A) → i < length xs → getD xs i a ≡ getD xs i b
+getD-any [] i a b h = absurd (not-suc-le-zero h)
+getD-any (x ∷ xs) zero a b h = refl
+getD-any (x ∷ xs) (suc i) a b h = getD-any xs i a b (le-of-suc-le-suc h)
+
+pub entry-as : (i j : ℕ) (d : ℤ) → i < 12 → j < 69 → getD (getD lines j []) i d ≡ entry fibre i j
+unfolding entry
+entry-as i j d hi hj = getD-any (getD lines j []) i d (negsuc 0) (omega (arith, twelve j hj))

@@ -1,0 +1,50 @@
+-- Laws of computed tests: a test of two parts, of every element of a list, of every number below a bound.
+--
+--   both a b        a and b
+--   all f xs        f of every element of xs
+--   every n f       f of every number below n
+--   X-left, -right  a part of a test that passes, passes
+--   all-at, all-in, every-at   what passes for all, passes for each
+use mathlib.Core.Bool.{Bool, true, false}
+use mathlib.Core.Logic.{⊎-elim}
+use mathlib.Core.List.{List, [], _∷_}
+use Prim.Native.Nat.{ℕ, zero, suc, _<_}
+use native.Mathlib.Nat.{not-suc-le-zero, le-of-suc-le-suc, eq-or-lt-of-le}
+use lib.Dec.{T}
+use lib.ListN.{length, getD}
+
+abbrev pub both : Bool → Bool → Bool
+both true b = b
+both false b = false
+
+pub both-left : (a b : Bool) → T (both a b) → T a
+both-left true b t = tt
+both-left false b t = t
+
+pub both-right : (a b : Bool) → T (both a b) → T b
+both-right true b t = t
+both-right false b t = absurd t
+
+abbrev pub all : {A : Type 0} → (A → Bool) → List A → Bool
+all f [] = true
+all f (x ∷ xs) = both (f x) (all f xs)
+
+pub all-at : {A : Type 0} (f : A → Bool) (d : A) → T (f d) → (xs : List A) → T (all f xs) → (k : ℕ) → T (f (getD xs k d))
+all-at f d td [] t k = td
+all-at f d td (x ∷ xs) t zero = both-left (f x) (all f xs) t
+all-at f d td (x ∷ xs) t (suc k) = all-at f d td xs (both-right (f x) (all f xs) t) k
+
+pub all-in : {A : Type 0} (f : A → Bool) (d : A) (xs : List A) → T (all f xs) → (k : ℕ) → k < length xs → T (f (getD xs k d))
+all-in f d [] t k h = absurd (not-suc-le-zero h)
+all-in f d (x ∷ xs) t zero h = both-left (f x) (all f xs) t
+all-in f d (x ∷ xs) t (suc k) h = all-in f d xs (both-right (f x) (all f xs) t) k (le-of-suc-le-suc h)
+
+abbrev pub every : ℕ → (ℕ → Bool) → Bool
+every zero f = true
+every (suc n) f = both (f n) (every n f)
+
+pub every-at : (n : ℕ) (f : ℕ → Bool) → T (every n f) → (k : ℕ) → k < n → T (f k)
+every-at zero f t k h = absurd (not-suc-le-zero h)
+every-at (suc n) f t k h =
+    ⊎-elim (λ e. rw e (both-left (f n) (every n f) t)) (λ l. every-at n f (both-right (f n) (every n f) t) k l)
+    (eq-or-lt-of-le (le-of-suc-le-suc h))

@@ -1,0 +1,9 @@
+pub mod Numbers
+pub mod Bits
+pub mod Matrix
+pub mod Table
+pub mod Words
+pub mod Verdicts
+pub mod Streams
+pub mod Refusals
+pub mod Promises
