@@ -1,2 +1,5 @@
 pub mod Tests
 pub mod TableLaws
+pub mod Sums
+pub mod Checks
+pub mod LessonLaws

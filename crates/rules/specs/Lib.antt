@@ -7,3 +7,4 @@ pub mod Verdicts
 pub mod Streams
 pub mod Refusals
 pub mod Promises
+pub mod Lessons

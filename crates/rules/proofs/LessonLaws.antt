@@ -1,0 +1,74 @@
+-- The ten proved lessons of paper 01's sheet are right.
+--
+--   lessons-right    the single claim
+--
+-- The places' lessons are computed. A word with a single 1 has, as its checks, that place's column of the matrix.
+use mathlib.Core.Path.{_≡_, refl, sym, ap, _∙_}
+use mathlib.Core.Bool.{Bool, true, false, cond}
+use Prim.Native.Nat.{ℕ, _<_, _≤_}
+use native.Mathlib.Omega.{arith}
+use lib.Dec.{T, eqb, eqb→eq, lit<, lit≤}
+use borrow.Author.Tests.{eq-eqb, ne-eqb}
+use Rattle.rules.specs.Bits.{zeros}
+use Rattle.rules.specs.Matrix.{entry, one, check, checksOf}
+use Rattle.rules.specs.Table.{lines, fibre}
+use Rattle.rules.specs.Verdicts.{WordVerdict, Lowest, Nowhere, ShortenedSet, Fails}
+use Rattle.rules.specs.Lessons.{only, Right, place, AllRight, lessons}
+use Rattle.rules.specs.declared.Cause.the-variants.{Shortened, Check}
+use Rattle.rules.specs.declared.Verdict.the-variants.{Accepted, Rejected}
+use Rattle.rules.proofs.Tests.{every, every-at}
+use Rattle.rules.proofs.Checks.{check-zeros, check-single}
+
+only-elsewhere : (p n : ℕ) → (n ≡ p → ⊥) → only p n ≡ 0
+only-elsewhere p n d = rw (ne-eqb n p d)
+
+only-at : (p : ℕ) → only p p ≡ 1
+only-at p = rw (eq-eqb p p refl)
+
+check-only : (n p : ℕ) → p < 17664 → check fibre n (only p) ≡ one fibre n p
+check-only n p h = check-single fibre n p (only p) h (only-at p) (λ q l d. only-elsewhere p q d)
+
+-- a 1 at place p, which is not shortened, fails the checks of p: first n, where p is in none below n
+first-check : (K p n : ℕ) → p < 17664 → ((m : ℕ) → K ≤ m → m < 14592 → m ≡ p → ⊥) → n < 3072 → one fibre n p ≡ 1
+    → T (every n (λ m. eqb (one fibre m p) 0)) → WordVerdict K (only p) (Rejected (Check n))
+first-check K p n h s l e t = (
+  (λ m a. let z : only p m ≡ 0 = only-elsewhere p m (s m (a .0) (a .1)) in omega arith),
+  (
+    (l, check-only n p h ∙ e),
+    λ m k a. omega (arith, sym (check-only m p h) ∙ a .1, eqb→eq (one fibre m p) 0 (every-at n (λ m. eqb (one fibre m p) 0) t m k)),
+  ),
+)
+
+-- a 1 at place K, the first shortened one
+first-shortened : (K : ℕ) → K < 14592 → WordVerdict K (only K) (Rejected (Shortened K))
+first-shortened K h = ((omega arith, h, only-at K), λ m l a. omega arith)
+
+zero-word : WordVerdict 1 zeros Accepted
+zero-word = (λ n a. omega arith, λ n a. omega (arith, check-zeros fibre n, a .1))
+
+bit-zero : WordVerdict 1 (only 0) (Rejected (Check 176))
+unfolding one entry lines
+bit-zero = first-check 1 0 176 (lit< tt) (λ m a b e. omega arith) (lit< tt) refl tt
+
+first-parity : WordVerdict 1 (only 14592) (Rejected (Check 551))
+unfolding one entry lines
+first-parity = first-check 1 14592 551 (lit< tt) (λ m a b e. omega arith) (lit< tt) refl tt
+
+pub lessons-right : AllRight lessons
+unfolding checksOf one entry lines
+lessons-right = (
+  refl,
+  (
+    refl,
+    (
+      refl,
+      (
+        refl,
+        (
+          refl,
+          (zero-word, (bit-zero, (first-shortened 1 (lit< tt), (first-shortened 14392 (lit< tt), (first-parity, tt))))),
+        ),
+      ),
+    ),
+  ),
+)

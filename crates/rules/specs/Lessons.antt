@@ -1,0 +1,51 @@
+-- Paper 01, 'Lesson sheet': the ten lessons marked P, in one table, and what it is for a lesson to be right.
+--
+--   only p        the word that has a 1 at place p alone
+--   place p ns    a lesson: place p is in the checks ns
+--   word w K v    a lesson: the full word w with payload count K has the verdict v
+--   Right         what a lesson claims of the definitions
+--   lessons       the ten
+--   AllRight      the single claim: each lesson of a list is right
+--
+-- Believe this file beside the paper. LessonLaws proves AllRight lessons.
+use mathlib.Core.Path.{_≡_}
+use mathlib.Core.Bool.{cond}
+use mathlib.Core.List.{List, [], _∷_}
+use Prim.Native.Nat.{ℕ}
+use lib.Dec.{eqb}
+use Rattle.rules.specs.Bits.{zeros}
+use Rattle.rules.specs.Matrix.{checksOf}
+use Rattle.rules.specs.Table.{fibre}
+use Rattle.rules.specs.Verdicts.{WordVerdict}
+use Rattle.rules.specs.declared.Cause.the-variants.{Shortened, Check}
+use Rattle.rules.specs.declared.Verdict.{Verdict}
+use Rattle.rules.specs.declared.Verdict.the-variants.{Accepted, Rejected}
+
+abbrev pub only : ℕ → ℕ → ℕ
+only p n = cond (eqb n p) 1 0
+
+pub data Lesson : Type 0 where
+  place : ℕ → List ℕ → Lesson
+  word : (ℕ → ℕ) → ℕ → Verdict → Lesson
+
+abbrev pub Right : Lesson → Type 0
+Right (place p ns) = checksOf fibre p ≡ ns
+Right (word w K v) = WordVerdict K w v
+
+abbrev pub AllRight : List Lesson → Type 0
+AllRight [] = Unit
+AllRight (l ∷ ls) = Right l × AllRight ls
+
+abbrev pub lessons : List Lesson
+lessons =
+    place 0 (176 ∷ 919 ∷ 1655 ∷ 2304 ∷ 2607 ∷ 3019 ∷ []) ∷
+    place 255 (175 ∷ 918 ∷ 1654 ∷ 2559 ∷ 2606 ∷ 3018 ∷ []) ∷
+    place 256 (256 ∷ 677 ∷ 1110 ∷ 1490 ∷ 1930 ∷ 2096 ∷ []) ∷
+    place 14391 (311 ∷ 1214 ∷ 2677 ∷ []) ∷
+    place 14592 (551 ∷ 1024 ∷ 1633 ∷ []) ∷
+    word zeros 1 Accepted ∷
+    word (only 0) 1 (Rejected (Check 176)) ∷
+    word (only 1) 1 (Rejected (Shortened 1)) ∷
+    word (only 14392) 14392 (Rejected (Shortened 14392)) ∷
+    word (only 14592) 1 (Rejected (Check 551)) ∷
+    []
