@@ -1,7 +1,5 @@
 -- Laws of a check, over any block size and table.
 --
---   spot z a f r     what the block of entry a takes at local row r from its column's bits f
---   term c n w j     what block column j adds to check n of w
 --   block-of, local-of   the block and the local column of place z * j + t
 --   check-columns    a check is the sum mod 2 of its terms, one for each block column
 --   check-below      a check is 0 or 1
@@ -21,14 +19,8 @@ use lib.IntN.{ℤ, pos, negsuc}
 use borrow.Author.Tests.{eq-eqb, ne-eqb}
 use Rattle.rules.specs.Bits.{zeros, sum}
 use Rattle.rules.specs.Matrix.{Code, places, entry, block, one, total, check}
+use Rattle.rules.specs.Terms.{spot, term}
 use Rattle.rules.proofs.Sums.{total-same, total-none, total-add, total-mod, total-one, total-blocks}
-
-abbrev pub spot : ℕ → ℤ → (ℕ → ℕ) → ℕ → ℕ
-spot z (pos a) f r = f ((r + a) % z)
-spot z (negsuc n) f r = 0
-
-unfoldable pub term : Code → ℕ → (ℕ → ℕ) → ℕ → ℕ
-term c n w j = spot (c .size) (entry c (n / c .size) j) (λ t. w (c .size * j + t)) (n % c .size)
 
 pub block-of : (z j t : ℕ) → t < z → (z * j + t) / z ≡ j
 block-of z j t h = rw (mul-comm z j) (digits-div j h)

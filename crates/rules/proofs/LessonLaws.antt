@@ -7,6 +7,7 @@ use mathlib.Core.Path.{_≡_, refl, sym, ap, _∙_}
 use mathlib.Core.Bool.{Bool, true, false, cond}
 use Prim.Native.Nat.{ℕ, _<_, _≤_}
 use native.Mathlib.Omega.{arith}
+use lib.ListN.{take}
 use lib.Dec.{T, eqb, eqb→eq, lit<, lit≤}
 use borrow.Author.Tests.{eq-eqb, ne-eqb}
 use Rattle.rules.specs.Bits.{zeros}
@@ -18,6 +19,11 @@ use Rattle.rules.specs.declared.Cause.the-variants.{Shortened, Check}
 use Rattle.rules.specs.declared.Verdict.the-variants.{Accepted, Rejected}
 use Rattle.rules.proofs.Tests.{every, every-at}
 use Rattle.rules.proofs.Checks.{check-zeros, check-single}
+
+-- the lessons on places, each by computing the whole column
+place-lessons : AllRight (take 5 lessons)
+unfolding checksOf one entry lines
+place-lessons = (refl, (refl, (refl, (refl, (refl, tt)))))
 
 only-elsewhere : (p n : ℕ) → (n ≡ p → ⊥) → only p n ≡ 0
 only-elsewhere p n d = rw (ne-eqb n p d)
@@ -55,17 +61,16 @@ unfolding one entry lines
 first-parity = first-check 1 14592 551 (lit< tt) (λ m a b e. omega arith) (lit< tt) refl tt
 
 pub lessons-right : AllRight lessons
-unfolding checksOf one entry lines
 lessons-right = (
-  refl,
+  place-lessons .0,
   (
-    refl,
+    place-lessons .1 .0,
     (
-      refl,
+      place-lessons .1 .1 .0,
       (
-        refl,
+        place-lessons .1 .1 .1 .0,
         (
-          refl,
+          place-lessons .1 .1 .1 .1 .0,
           (zero-word, (bit-zero, (first-shortened 1 (lit< tt), (first-shortened 14392 (lit< tt), (first-parity, tt))))),
         ),
       ),

@@ -9,7 +9,7 @@
 --   run b x y        b bits of x, then y from its place 0 on
 --   placed h b x     b bits of x at the places h to h + b - 1, and 0 elsewhere
 --   sum x y          the sum mod 2 of x and y, place by place
---   Holds b x s t    the first need b bytes of t hold the b bits of x, then zeros; all after them is as in s
+--   Written b x s t  the first need b bytes of t hold the b bits of x, then zeros; all after them is as in s
 --
 -- Believe this file beside the paper; nothing here is proved.
 use mathlib.Core.Path.{_≡_}
@@ -43,7 +43,7 @@ placed h b x = run h zeros (run b x zeros)
 abbrev pub sum : (ℕ → ℕ) → (ℕ → ℕ) → ℕ → ℕ
 sum x y n = (x n + y n) % 2
 
-pub record Holds (b : ℕ) (x : ℕ → ℕ) (s t : List ℕ) : Type 0 where
+pub record Written (b : ℕ) (x : ℕ → ℕ) (s t : List ℕ) : Type 0 where
   pub length-same : length t ≡ length s
   pub bits : (n : ℕ) → n < 8 * need b → bit t n ≡ run b x zeros n
   pub after : drop (need b) t ≡ drop (need b) s

@@ -8,3 +8,4 @@ pub mod Streams
 pub mod Refusals
 pub mod Promises
 pub mod Lessons
+pub mod Terms

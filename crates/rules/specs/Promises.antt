@@ -17,7 +17,7 @@ use mathlib.Core.Path.{_≡_}
 use mathlib.Core.List.{List, _++_}
 use Prim.Native.Nat.{ℕ, _<_}
 use lib.ListN.{length, take}
-use Rattle.rules.specs.Bits.{bit, Holds}
+use Rattle.rules.specs.Bits.{bit, Written}
 use Rattle.rules.specs.Words.{padded, Parity, OwnChecks, tail, tailBits, lineWord, lineBits}
 use Rattle.rules.specs.Verdicts.{WordVerdict, LineVerdict}
 use Rattle.rules.specs.Streams.{fresh, Fed}
@@ -58,7 +58,7 @@ pub record WordChecked (K : ℕ) (w : List ℕ) (j : Judgement) : Type 0 where
 
 pub record Encoded (K : ℕ) (u : List ℕ) (d : ℕ) (o : List ℕ) (a : Answer) (o′ : List ℕ) : Type 0 where
   pub told : EncodeTold K u d (length o) (number a)
-  pub line : by a ((p : List ℕ) × Parity (padded K (bit u)) p × Holds (lineBits K) (lineWord K (bit u) p d) o o′) (o′ ≡ o)
+  pub line : by a ((p : List ℕ) × Parity (padded K (bit u)) p × Written (lineBits K) (lineWord K (bit u) p d) o o′) (o′ ≡ o)
 
 pub record LineChecked (K : ℕ) (l : List ℕ) (d : ℕ) (j : Judgement) : Type 0 where
   pub told : LineTold K l d (refusal j)
@@ -72,5 +72,5 @@ pub record Finished (d : ℕ) (t : Stream) (o : List ℕ) (r : Step) (o′ : Lis
   pub told : FinishTold (t .held) d (length o) (number (r .answer))
   pub effect :
       by (r .answer)
-      ((r .stream ≡ fresh) × (p : List ℕ) × OwnChecks (t .checks) p × Holds tailBits (tail p d) o o′)
+      ((r .stream ≡ fresh) × (p : List ℕ) × OwnChecks (t .checks) p × Written tailBits (tail p d) o o′)
       ((r .stream ≡ t) × (o′ ≡ o))

@@ -1,0 +1,206 @@
+// Paper 01, 'Refusal numbers': a test for each refusal, which answers its number or 0, and each operation's order of tests.
+ghost use mathlib.Core.Path.{_≡_};
+ghost use Prim.Native.Nat.{_≤_, _<_};
+ghost use lib.ListN.{length};
+ghost use Rattle.rules.specs.Bits.{need, UnusedSet};
+ghost use Rattle.rules.specs.Refusals.{told, none, BadCount, BadDelimiter, NoRoom, TooMany, SomeShortened};
+ghost use Rattle.rules.specs.Refusals.{EncodeTold, PieceTold, FinishTold, CompleteTold, WordTold, LineTold};
+
+// 1: the count of payload bits is 0, or above 14,392.
+fn bad_count(count: usize) -> usize
+    ensures { λ r. ⌜ told (BadCount count) 1 none r ⌝ }
+{
+    if count == 0 {
+        return 1;
+    }
+    if 14392 < count {
+        return 1;
+    }
+    0
+}
+
+// 2: the bytes given are not exactly the number needed.
+fn wrong_bytes(given: usize, wanted: usize) -> usize
+    ensures { λ r. ⌜ told (given ≡ wanted → ⊥) 2 none r ⌝ }
+{
+    if given != wanted {
+        return 2;
+    }
+    0
+}
+
+// 3: an unused high bit is 1. All of them are in the last byte.
+fn unused_set(s: &[u8], count: usize) -> usize
+    requires { ⌜ length (now s) ≡ need count ⌝ }
+    ensures { λ r. ⌜ told (UnusedSet (now (s .entry)) count) 3 none r ⌝ }
+{
+    let used = count % 8;
+    if used == 0 {
+        return 0;
+    }
+    let last = count / 8;
+    let place = bits::first_set(&s[last..], used, 8);
+    if place < 8 {
+        return 3;
+    }
+    0
+}
+
+// 4: the delimiter is above 1,023.
+fn bad_delimiter(delimiter: usize) -> usize
+    ensures { λ r. ⌜ told (BadDelimiter delimiter) 4 none r ⌝ }
+{
+    if 1023 < delimiter {
+        return 4;
+    }
+    0
+}
+
+// 5: the output is shorter than needed.
+fn no_room(room: usize, count: usize) -> usize
+    ensures { λ r. ⌜ told (NoRoom room count) 5 none r ⌝ }
+{
+    if room < bits::needed(count) {
+        return 5;
+    }
+    0
+}
+
+// 6: with b bits more, the stream would hold more than 14,392.
+fn too_many_with(held: usize, count: usize) -> usize
+    requires { ⌜ held ≤ 14392 ⌝ }
+    ensures { λ r. ⌜ told (TooMany (held + count)) 6 none r ⌝ }
+{
+    if 14392 - held < count {
+        return 6;
+    }
+    0
+}
+
+// 7: the stream claims more than 14,392 bits.
+fn too_many(held: usize) -> usize
+    ensures { λ r. ⌜ told (TooMany held) 7 none r ⌝ }
+{
+    if 14392 < held {
+        return 7;
+    }
+    0
+}
+
+// 8: a shortened place of the word is 1.
+fn shortened_set(count: usize, word: &[u8]) -> usize
+    requires { ⌜ (count ≤ 14392) × (length (now word) ≡ 2208) ⌝ }
+    ensures { λ r. ⌜ told (SomeShortened count (now (word .entry))) 8 none r ⌝ }
+{
+    let place = bits::first_set(word, count, 14592);
+    if place < 14592 {
+        return 8;
+    }
+    0
+}
+
+// Encode: 1, 2, 3, 4, 5.
+pub fn encode(count: usize, payload: &[u8], delimiter: usize, room: usize) -> usize
+    ensures { λ r. ⌜ EncodeTold count (now (payload .entry)) delimiter room r ⌝ }
+{
+    let first = bad_count(count);
+    if first != 0 {
+        return first;
+    }
+    let second = wrong_bytes(payload.len(), bits::needed(count));
+    if second != 0 {
+        return second;
+    }
+    let third = unused_set(payload, count);
+    if third != 0 {
+        return third;
+    }
+    let fourth = bad_delimiter(delimiter);
+    if fourth != 0 {
+        return fourth;
+    }
+    no_room(room, count + 2570)
+}
+
+// Piece: 7, 2, 3, 6.
+pub fn piece(held: usize, count: usize, bytes: &[u8]) -> usize
+    ensures { λ r. ⌜ PieceTold held count (now (bytes .entry)) r ⌝ }
+{
+    let first = too_many(held);
+    if first != 0 {
+        return first;
+    }
+    let second = wrong_bytes(bytes.len(), bits::needed(count));
+    if second != 0 {
+        return second;
+    }
+    let third = unused_set(bytes, count);
+    if third != 0 {
+        return third;
+    }
+    too_many_with(held, count)
+}
+
+// Finish: 7, 1, 4, 5.
+pub fn finish(held: usize, delimiter: usize, room: usize) -> usize
+    ensures { λ r. ⌜ FinishTold held delimiter room r ⌝ }
+{
+    let first = too_many(held);
+    if first != 0 {
+        return first;
+    }
+    let second = bad_count(held);
+    if second != 0 {
+        return second;
+    }
+    let third = bad_delimiter(delimiter);
+    if third != 0 {
+        return third;
+    }
+    no_room(room, 2570)
+}
+
+// Complete: 1, 2, 8.
+pub fn complete(count: usize, word: &[u8]) -> usize
+    ensures { λ r. ⌜ CompleteTold count (now (word .entry)) r ⌝ }
+{
+    let first = bad_count(count);
+    if first != 0 {
+        return first;
+    }
+    let second = wrong_bytes(word.len(), 2208);
+    if second != 0 {
+        return second;
+    }
+    shortened_set(count, word)
+}
+
+// Full-word check: 1, 2.
+pub fn check_word(count: usize, word: &[u8]) -> usize
+    ensures { λ r. ⌜ WordTold count (now (word .entry)) r ⌝ }
+{
+    let first = bad_count(count);
+    if first != 0 {
+        return first;
+    }
+    wrong_bytes(word.len(), 2208)
+}
+
+// Line check: 1, 2, 3, 4.
+pub fn check_line(count: usize, line: &[u8], delimiter: usize) -> usize
+    ensures { λ r. ⌜ LineTold count (now (line .entry)) delimiter r ⌝ }
+{
+    let first = bad_count(count);
+    if first != 0 {
+        return first;
+    }
+    let second = wrong_bytes(line.len(), bits::needed(count + 2570));
+    if second != 0 {
+        return second;
+    }
+    let third = unused_set(line, count + 2570);
+    if third != 0 {
+        return third;
+    }
+    bad_delimiter(delimiter)
+}
