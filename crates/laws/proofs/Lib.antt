@@ -1,2 +1,4 @@
+pub mod Bits
+pub mod Runs
 pub mod Told
 pub mod Judged

@@ -1,0 +1,83 @@
+-- Laws of runs of bits, one after another.
+--
+--   run-low, run-high            a run's first part, and what follows it
+--   run-none                     a run of no bits is what follows it
+--   run-each                     what holds of both parts, each at its places, holds of the run
+--   run-below                    a run of bits is bits
+--   run-same                     equal parts make equal runs
+--   run-sum                      a run of sums is the sum of the runs
+--   run-run                      zeros after zeros
+--   run-more                     one more bit
+--   placed-below, placed-above   the places before and after b bits of x placed at h are 0
+--   placed-in                    the places between are x
+--   placed-none                  no bits placed
+--   placed-more                  one more bit placed
+use mathlib.Core.Path.{_≡_, refl, sym, ap, _∙_}
+use Prim.Native.Nat.{ℕ, _+_, _-_, _≤_, _<_}
+use native.Mathlib.Decide.{ℕ-discrete, decLt}
+use native.Mathlib.Omega.{arith}
+use borrow.Author.Tests.{lt-ltb, le-ltb}
+use Rattle.rules.specs.Bits.{zeros, run, placed}
+
+module _ (b : ℕ) (x y : ℕ → ℕ) (n : ℕ) where
+  pub run-low : n < b → run b x y n ≡ x n
+  unfolding run
+  run-low h = rw lt-ltb
+
+  pub run-high : b ≤ n → run b x y n ≡ y (n - b)
+  unfolding run
+  run-high h = rw le-ltb
+
+  pub run-each : (P : ℕ → Type 0) → (n < b → P (x n)) → (b ≤ n → P (y (n - b))) → P (run b x y n)
+  run-each P low high = elim (decLt n b) [
+    | yes h ↦ rw (run-low h) (low h)
+    | no h ↦ let l : b ≤ n = omega arith in rw (run-high l) (high l)
+  ]
+
+pub run-none : (x y : ℕ → ℕ) (n : ℕ) → run 0 x y n ≡ y n
+run-none x y n = run-high 0 x y n (omega arith) ∙ ap y (omega arith)
+
+pub run-below : (b : ℕ) (x y : ℕ → ℕ) → ((n : ℕ) → n < b → x n < 2) → ((n : ℕ) → y n < 2) → (n : ℕ) → run b x y n < 2
+run-below b x y low high n = run-each b x y n (λ v. v < 2) (low n) (λ h. high (n - b))
+
+module _ (b : ℕ) (x y x′ y′ : ℕ → ℕ) where
+  pub run-same : ((n : ℕ) → n < b → x n ≡ x′ n) → ((n : ℕ) → y n ≡ y′ n) → (n : ℕ) → run b x y n ≡ run b x′ y′ n
+  run-same low high n =
+      run-each b x y n (λ v. v ≡ run b x′ y′ n) (λ h. rw run-low (low n h)) (λ h. rw run-high (high (n - b)))
+
+  pub run-sum : (n : ℕ) → run b (λ k. x k + x′ k) (λ k. y k + y′ k) n ≡ run b x y n + run b x′ y′ n
+  run-sum n = run-each b _ _ n (λ v. v ≡ run b x y n + run b x′ y′ n) (λ h. rw (run-low b x y n, run-low b x′ y′ n)) (λ h. rw (run-high b x y n, run-high b x′ y′ n))
+
+pub run-run : (h b : ℕ) (y : ℕ → ℕ) (n : ℕ) → run h zeros (run b zeros y) n ≡ run (h + b) zeros y n
+run-run h b y n =
+    run-each h zeros (run b zeros y) n (λ v. v ≡ run (h + b) zeros y n) (λ l. sym (run-low (h + b) zeros y n (omega arith)))
+    (λ l. run-each b zeros y (n - h) (λ v. v ≡ run (h + b) zeros y n) (λ k. sym (run-low (h + b) zeros y n (omega arith)))
+    (λ k. ap y (omega arith) ∙ sym (run-high (h + b) zeros y n (omega arith))))
+
+module _ (h b : ℕ) (x : ℕ → ℕ) (n : ℕ) where
+  pub placed-below : n < h → placed h b x n ≡ 0
+  placed-below l = run-low h zeros (run b x zeros) n l
+
+  pub placed-in : h ≤ n → n < h + b → placed h b x n ≡ x (n - h)
+  placed-in l k = run-high h zeros (run b x zeros) n l ∙ run-low b x zeros (n - h) (omega arith)
+
+  pub placed-above : h + b ≤ n → placed h b x n ≡ 0
+  placed-above l = run-high h zeros (run b x zeros) n (omega arith) ∙ run-high b x zeros (n - h) (omega arith)
+
+pub placed-none : (h : ℕ) (x : ℕ → ℕ) (n : ℕ) → placed h 0 x n ≡ 0
+placed-none h x n = run-each h zeros (run 0 x zeros) n (λ v. v ≡ 0) (λ l. refl) (λ l. run-none x zeros (n - h))
+
+pub run-more : (b : ℕ) (x : ℕ → ℕ) (n : ℕ) → run (b + 1) x zeros n ≡ run b x zeros n + placed b 1 (λ t. x b) n
+run-more b x n = elim (ℕ-discrete n b) [
+  | yes e ↦ rw (e, run-low (b + 1) x zeros b (omega arith), run-high b x zeros b (omega arith), placed-in b 1 (λ t. x b) b (omega arith) (omega arith)) (omega arith)
+  | no d ↦ elim (decLt n b) [
+    | yes l ↦ rw (run-low (b + 1) x zeros n (omega arith), run-low b x zeros n l, placed-below b 1 (λ t. x b) n l) (omega arith)
+    | no l ↦ rw (run-high (b + 1) x zeros n (omega arith), run-high b x zeros n (omega arith), placed-above b 1 (λ t. x b) n (omega arith))
+  ]
+]
+
+pub placed-more : (h b : ℕ) (x : ℕ → ℕ) (n : ℕ) → placed h (b + 1) x n ≡ placed h b x n + placed (h + b) 1 (λ t. x b) n
+placed-more h b x n =
+    run-same h zeros (run (b + 1) x zeros) zeros _ (λ k l. refl) (run-more b x) n
+    ∙ run-sum h zeros (run b x zeros) zeros (placed b 1 (λ t. x b)) n
+    ∙ ap (λ (v : ℕ). placed h b x n + v) (run-run h b (run 1 (λ t. x b) zeros) n)
