@@ -1,4 +1,5 @@
 pub mod Bits
 pub mod Runs
+pub mod Columns
 pub mod Told
 pub mod Judged

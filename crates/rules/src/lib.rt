@@ -4,6 +4,7 @@ ghost use mathlib.Core.Path.{_≡_};
 ghost use Prim.Native.Nat.{_<_};
 ghost use Rattle.rules.specs.Matrix.{entry};
 ghost use Rattle.rules.specs.Table.{fibre};
+ghost use Rattle.rules.specs.Terms.{turn};
 
 // Why a word is not accepted: the lowest shortened place that is 1, the lowest failing row, the lowest sent parity
 // place that differs, or the lowest delimiter bit that differs.
@@ -44,7 +45,7 @@ pub struct Step {
 }
 
 // Table 142-1, as printed: 69 lines of 12 entries, C1 to C12.
-const TABLE: [[i16; 12]; 69] = [
+pub const TABLE: [[i16; 12]; 69] = [
     [80, -1, -1, 105, -1, -1, 137, -1, -1, 0, 209, 53],
     [-1, 0, 91, -1, 170, 46, -1, 118, 208, -1, -1, -1],
     [-1, -1, -1, -1, 250, -1, 104, 15, 0, -1, 252, 93],
@@ -122,4 +123,14 @@ pub fn entry_at(i: usize, j: usize) -> i16
     ensures { λ r. ⌜ r ≡ entry fibre i j ⌝ }
 {
     TABLE[j][i]
+}
+
+// How far the block of an entry is turned, and 256 where it is a zero block.
+pub fn turn_of(entry: i16) -> usize
+    ensures { λ r. ⌜ r ≡ turn entry ⌝ }
+{
+    if entry < 0 {
+        return 256;
+    }
+    entry as usize
 }

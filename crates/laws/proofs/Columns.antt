@@ -1,0 +1,72 @@
+-- Laws of a check by its block columns, over any block size and table.
+--
+--   spot-same      a block needs its column's bits only
+--   spot-below     what a block takes of bits is a bit
+--   term-same      so does a term, and
+--   term-below     a term of a word of bits is a bit
+--   check-column   a check of block j of a word alone is that column's term
+use mathlib.Core.Path.{_≡_, refl, sym, ap, _∙_}
+use Prim.Native.Nat.{ℕ, _+_, _-_, _*_, _/_, _%_, _≤_, _<_}
+use native.Mathlib.Nat.{mod-lt, mul-suc, mul-le-mul-left}
+use native.Mathlib.Decide.{decLt}
+use native.Mathlib.Omega.{arith}
+use lib.Dec.{lit<}
+use lib.IntN.{ℤ, pos, negsuc}
+use Rattle.rules.specs.Bits.{zeros, placed}
+use Rattle.rules.specs.Matrix.{Code, entry, total, check}
+use Rattle.rules.specs.Terms.{spot, term}
+use Rattle.rules.proofs.Sums.{total-one}
+use Rattle.rules.proofs.Checks.{check-columns}
+use Rattle.laws.proofs.Runs.{placed-below, placed-in, placed-above}
+
+pub spot-same : (z : ℕ) → 0 < z → (a : ℤ) (f g : ℕ → ℕ) (r : ℕ) → ((t : ℕ) → t < z → f t ≡ g t) → spot z a f r ≡ spot z a g r
+spot-same z h (pos a) f g r same = same ((r + a) % z) (mod-lt (r + a) h)
+spot-same z h (negsuc n) f g r same = refl
+
+pub spot-below : (z : ℕ) (a : ℤ) (f : ℕ → ℕ) (r : ℕ) → ((t : ℕ) → f t < 2) → spot z a f r < 2
+spot-below z (pos a) f r bits = bits ((r + a) % z)
+spot-below z (negsuc n) f r bits = lit< tt
+
+spot-zeros : (z : ℕ) (a : ℤ) (r : ℕ) → spot z a zeros r ≡ 0
+spot-zeros z (pos a) r = refl
+spot-zeros z (negsuc n) r = refl
+
+module _ (c : Code) (h : 0 < c .size) (n : ℕ) where
+  pub term-same : (x y : ℕ → ℕ) (j : ℕ) → ((t : ℕ) → t < c .size → x (c .size * j + t) ≡ y (c .size * j + t)) → term c n x j ≡ term c n y j
+  unfolding term
+  term-same x y j same =
+      spot-same (c .size) h (entry c (n / c .size) j) (λ t. x (c .size * j + t)) (λ t. y (c .size * j + t)) (n % c .size) same
+
+  pub term-below : (w : ℕ → ℕ) (j : ℕ) → ((t : ℕ) → w t < 2) → term c n w j < 2
+  unfolding term
+  term-below w j bits = spot-below (c .size) (entry c (n / c .size) j) (λ t. w (c .size * j + t)) (n % c .size) (λ t. bits (c .size * j + t))
+
+  term-zeros : (x : ℕ → ℕ) (j : ℕ) → ((t : ℕ) → t < c .size → x (c .size * j + t) ≡ 0) → term c n x j ≡ 0
+  unfolding term
+  term-zeros x j none = term-same x zeros j none ∙ spot-zeros (c .size) (entry c (n / c .size) j) (n % c .size)
+
+-- block k lies before block j
+before : (z k j : ℕ) → k < j → z * k + z ≤ z * j
+before z k j h = rw (mul-suc z k) at (mul-le-mul-left z h)
+
+module _ (c : Code) (h : 0 < c .size) (w : ℕ → ℕ) (j : ℕ) where
+  abbrev pub blockAlone : ℕ → ℕ
+  blockAlone = placed (c .size * j) (c .size) (λ t. w (c .size * j + t))
+
+  elsewhere : (k t : ℕ) → t < c .size → (k ≡ j → ⊥) → blockAlone (c .size * k + t) ≡ 0
+  elsewhere k t l d = elim (decLt k j) [
+    | yes b ↦ placed-below (c .size * j) (c .size) (λ t. w (c .size * j + t)) (c .size * k + t) (omega (arith, before (c .size) k j b))
+    | no b ↦ placed-above (c .size * j) (c .size) (λ t. w (c .size * j + t)) (c .size * k + t) (omega (arith, before (c .size) j k (omega arith)))
+  ]
+
+  here : (t : ℕ) → t < c .size → blockAlone (c .size * j + t) ≡ w (c .size * j + t)
+  here t l =
+      placed-in (c .size * j) (c .size) (λ t. w (c .size * j + t)) (c .size * j + t) (omega arith) (omega arith)
+      ∙ ap (λ (k : ℕ). w (c .size * j + k)) (omega arith)
+
+  pub check-column : (n : ℕ) → j < c .columns → check c n blockAlone ≡ term c n w j % 2
+  check-column n l =
+      check-columns c h n blockAlone
+      ∙ ap (λ (s : ℕ). s % 2)
+      (total-one (c .columns) (term c n blockAlone) j l (λ k m d. term-zeros c h n blockAlone k (λ t q. elsewhere k t q d))
+      ∙ term-same c h n blockAlone w j here)
