@@ -7,14 +7,14 @@
 --   run-same                     equal parts make equal runs
 --   run-sum                      a run of sums is the sum of the runs
 --   run-run                      zeros after zeros
---   run-more                     one more bit
+--   run-join, placed-join        m more bits
+--   run-more, placed-more        one more bit
 --   placed-below, placed-above   the places before and after b bits of x placed at h are 0
 --   placed-in                    the places between are x
 --   placed-none                  no bits placed
---   placed-more                  one more bit placed
 use mathlib.Core.Path.{_≡_, refl, sym, ap, _∙_}
 use Prim.Native.Nat.{ℕ, _+_, _-_, _≤_, _<_}
-use native.Mathlib.Decide.{ℕ-discrete, decLt}
+use native.Mathlib.Decide.{decLt}
 use native.Mathlib.Omega.{arith}
 use borrow.Author.Tests.{lt-ltb, le-ltb}
 use Rattle.rules.specs.Bits.{zeros, run, placed}
@@ -67,17 +67,36 @@ module _ (h b : ℕ) (x : ℕ → ℕ) (n : ℕ) where
 pub placed-none : (h : ℕ) (x : ℕ → ℕ) (n : ℕ) → placed h 0 x n ≡ 0
 placed-none h x n = run-each h zeros (run 0 x zeros) n (λ v. v ≡ 0) (λ l. refl) (λ l. run-none x zeros (n - h))
 
-pub run-more : (b : ℕ) (x : ℕ → ℕ) (n : ℕ) → run (b + 1) x zeros n ≡ run b x zeros n + placed b 1 (λ t. x b) n
-run-more b x n = elim (ℕ-discrete n b) [
-  | yes e ↦ rw (e, run-low (b + 1) x zeros b (omega arith), run-high b x zeros b (omega arith), placed-in b 1 (λ t. x b) b (omega arith) (omega arith)) (omega arith)
-  | no d ↦ elim (decLt n b) [
-    | yes l ↦ rw (run-low (b + 1) x zeros n (omega arith), run-low b x zeros n l, placed-below b 1 (λ t. x b) n l) (omega arith)
-    | no l ↦ rw (run-high (b + 1) x zeros n (omega arith), run-high b x zeros n (omega arith), placed-above b 1 (λ t. x b) n (omega arith))
+pub run-join : (b m : ℕ) (x : ℕ → ℕ) (n : ℕ) → run (b + m) x zeros n ≡ run b x zeros n + placed b m (λ t. x (b + t)) n
+run-join b m x n = elim (decLt n b) [
+  | yes l ↦ rw (run-low (b + m) x zeros n (omega arith), run-low b x zeros n l, placed-below b m (λ t. x (b + t)) n l) (omega arith)
+  | no l ↦ let h : b ≤ n = omega arith in elim (decLt n (b + m)) [
+    | yes k ↦
+        let e : b + (n - b) ≡ n = omega arith in
+        rw (run-low (b + m) x zeros n k, run-high b x zeros n h, placed-in b m (λ t. x (b + t)) n h k, e) (omega arith)
+    | no k ↦
+        rw (run-high (b + m) x zeros n (omega arith), run-high b x zeros n h, placed-above b m (λ t. x (b + t)) n (omega arith))
   ]
 ]
 
+pub placed-join : (h b m : ℕ) (x : ℕ → ℕ) (n : ℕ) → placed h (b + m) x n ≡ placed h b x n + placed (h + b) m (λ t. x (b + t)) n
+placed-join h b m x n =
+    run-same h zeros (run (b + m) x zeros) zeros _ (λ k l. refl) (run-join b m x) n
+    ∙ run-sum h zeros (run b x zeros) zeros (placed b m (λ t. x (b + t))) n
+    ∙ ap (λ (v : ℕ). placed h b x n + v) (run-run h b (run m (λ t. x (b + t)) zeros) n)
+
+-- a single bit placed
+single : (h : ℕ) (x y : ℕ → ℕ) → x 0 ≡ y 0 → (n : ℕ) → placed h 1 x n ≡ placed h 1 y n
+single h x y e =
+    run-same h zeros (run 1 x zeros) zeros (run 1 y zeros) (λ k l. refl)
+    (run-same 1 x zeros y zeros (λ k l. let z : k ≡ 0 = omega arith in rw z e) (λ k. refl))
+
+pub run-more : (b : ℕ) (x : ℕ → ℕ) (n : ℕ) → run (b + 1) x zeros n ≡ run b x zeros n + placed b 1 (λ t. x b) n
+run-more b x n =
+    run-join b 1 x n
+    ∙ ap (λ (v : ℕ). run b x zeros n + v) (single b (λ t. x (b + t)) (λ t. x b) (ap x (omega arith)) n)
+
 pub placed-more : (h b : ℕ) (x : ℕ → ℕ) (n : ℕ) → placed h (b + 1) x n ≡ placed h b x n + placed (h + b) 1 (λ t. x b) n
 placed-more h b x n =
-    run-same h zeros (run (b + 1) x zeros) zeros _ (λ k l. refl) (run-more b x) n
-    ∙ run-sum h zeros (run b x zeros) zeros (placed b 1 (λ t. x b)) n
-    ∙ ap (λ (v : ℕ). placed h b x n + v) (run-run h b (run 1 (λ t. x b) zeros) n)
+    placed-join h b 1 x n
+    ∙ ap (λ (v : ℕ). placed h b x n + v) (single (h + b) (λ t. x (b + t)) (λ t. x b) (ap x (omega arith)) n)
