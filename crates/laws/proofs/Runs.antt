@@ -9,12 +9,13 @@
 --   run-run                      zeros after zeros
 --   run-more                     one more bit
 --   placed-below, placed-above   the places before and after b bits of x placed at h are 0
---   placed-in                    the places between are x
+--   placed-in                    the places between are those of x
+--   placed-each                  what holds in all three cases, holds of the placed run
 --   placed-none                  no bits placed
 --   placed-more                  one more bit placed
 use mathlib.Core.Path.{_≡_, refl, sym, ap, _∙_}
 use Prim.Native.Nat.{ℕ, _+_, _-_, _≤_, _<_}
-use native.Mathlib.Decide.{ℕ-discrete, decLt}
+use native.Mathlib.Decide.{decLt}
 use native.Mathlib.Omega.{arith}
 use borrow.Author.Tests.{lt-ltb, le-ltb}
 use Rattle.rules.specs.Bits.{zeros, run, placed}
@@ -64,17 +65,22 @@ module _ (h b : ℕ) (x : ℕ → ℕ) (n : ℕ) where
   pub placed-above : h + b ≤ n → placed h b x n ≡ 0
   placed-above l = run-high h zeros (run b x zeros) n (omega arith) ∙ run-high b x zeros (n - h) (omega arith)
 
+  pub placed-each : (P : ℕ → Type 0) → (n < h → P 0) → (h ≤ n → n < h + b → P (x (n - h))) → (h + b ≤ n → P 0) → P (placed h b x n)
+  placed-each P below within above =
+      run-each h zeros (run b x zeros) n P below
+      (λ l. run-each b x zeros (n - h) P (λ k. within l (omega arith)) (λ k. above (omega arith)))
+
 pub placed-none : (h : ℕ) (x : ℕ → ℕ) (n : ℕ) → placed h 0 x n ≡ 0
-placed-none h x n = run-each h zeros (run 0 x zeros) n (λ v. v ≡ 0) (λ l. refl) (λ l. run-none x zeros (n - h))
+placed-none h x n = placed-each h 0 x n (λ v. v ≡ 0) (λ l. refl) (λ l k. absurd (omega arith)) (λ l. refl)
 
 pub run-more : (b : ℕ) (x : ℕ → ℕ) (n : ℕ) → run (b + 1) x zeros n ≡ run b x zeros n + placed b 1 (λ t. x b) n
-run-more b x n = elim (ℕ-discrete n b) [
-  | yes e ↦ rw (e, run-low (b + 1) x zeros b (omega arith), run-high b x zeros b (omega arith), placed-in b 1 (λ t. x b) b (omega arith) (omega arith)) (omega arith)
-  | no d ↦ elim (decLt n b) [
-    | yes l ↦ rw (run-low (b + 1) x zeros n (omega arith), run-low b x zeros n l, placed-below b 1 (λ t. x b) n l) (omega arith)
-    | no l ↦ rw (run-high (b + 1) x zeros n (omega arith), run-high b x zeros n (omega arith), placed-above b 1 (λ t. x b) n (omega arith))
-  ]
-]
+run-more b x n =
+    placed-each b 1 (λ t. x b) n (λ v. run (b + 1) x zeros n ≡ run b x zeros n + v)
+    (λ l. rw (run-low (b + 1) x zeros n (omega arith), run-low b x zeros n l) (omega arith))
+    (λ l k.
+    let e : n ≡ b = omega arith in
+    rw (run-low (b + 1) x zeros n k, run-high b x zeros n l, e) (omega arith))
+    (λ l. rw (run-high (b + 1) x zeros n l, run-high b x zeros n (omega arith)))
 
 pub placed-more : (h b : ℕ) (x : ℕ → ℕ) (n : ℕ) → placed h (b + 1) x n ≡ placed h b x n + placed (h + b) 1 (λ t. x b) n
 placed-more h b x n =
