@@ -3,7 +3,7 @@
 --   bit<                        a bit is below 2
 --   bit-past                    past the end of a list every bit is 0
 --   bit-xor                     a bit of an exclusive or is the sum mod 2
---   bit-weight                  a byte that has the value v at weight t is v there and 0 elsewhere
+--   bit-weight                  a byte that has the bit v at weight w is v there and 0 elsewhere
 --   bit-set, bit-set-other      a bit of a byte that was stored, and of another
 --   bit-part                    a bit of the k bytes from a
 --   mid a k s p                 s with its k bytes from a replaced by p
@@ -18,7 +18,7 @@
 --   length-pack, bytes-pack     n of them, each below 256
 --   bit-pack                    bit k of them is f k
 use mathlib.Core.Path.{_≡_, refl, sym, ap, _∙_}
-use mathlib.Core.Bool.{Bool, cond}
+use mathlib.Core.Bool.{Bool}
 use mathlib.Core.List.{List, [], _∷_, _++_, append-nil}
 use Prim.Native.Nat.{ℕ, zero, suc, _+_, _-_, _*_, _/_, _%_, _^_, _≤_, _<_}
 use native.Mathlib.Decide.{decLt}
@@ -30,7 +30,7 @@ use lib.ListN.{length, getD, set, take, drop, replicate, length-append, length-t
 use lib.ListN.{drop-of-length-le, List·getD-append, List·getD-eq-default, getD-replicate}
 use lib.Pow.{shr-shr}
 use lib.Seq.{getD-set-same, getD-set-other, getD-take, getD-drop, getD-append-add, length-take-le, ext-getD}
-use Rattle.rules.specs.Bits.{bit, Bytes}
+use Rattle.rules.specs.Bits.{bit, Bytes, run, placed}
 use Rattle.rules.proofs.Tests.{every, every-at}
 
 pub bit< : (s : List ℕ) (n : ℕ) → bit s n < 2
@@ -60,14 +60,14 @@ bit-xor x y t =
     ∙ xor-two (x / 2 ^ t % 2) (y / 2 ^ t % 2) (mod-lt _ (lit< tt)) (mod-lt _ (lit< tt))
 
 weighs : ℕ → ℕ → ℕ → Bool
-weighs t k v = eqb ((v * 2 ^ t) % 2 ^ 8 / 2 ^ k % 2) (cond (eqb k t) v 0)
+weighs w k v = eqb ((v * 2 ^ w) % 2 ^ 8 / 2 ^ k % 2) (placed w 1 (λ t. v) k)
 
-pub bit-weight : (t k v : ℕ) → t < 8 → k < 8 → v < 2 → (v * 2 ^ t) % 2 ^ 8 / 2 ^ k % 2 ≡ cond (eqb k t) v 0
-unfolding weighs
-bit-weight t k v ht hk hv =
+pub bit-weight : (w k v : ℕ) → w < 8 → k < 8 → v < 2 → (v * 2 ^ w) % 2 ^ 8 / 2 ^ k % 2 ≡ placed w 1 (λ t. v) k
+unfolding weighs run
+bit-weight w k v hw hk hv =
     eqb→eq _ _
-    (every-at 2 (weighs t k)
-    (every-at 8 (λ k. every 2 (weighs t k)) (every-at 8 (λ t. every 8 (λ k. every 2 (weighs t k))) tt t ht) k hk)
+    (every-at 2 (weighs w k)
+    (every-at 8 (λ k. every 2 (weighs w k)) (every-at 8 (λ w. every 8 (λ k. every 2 (weighs w k))) tt w hw) k hk)
     v hv)
 
 pub bit-set : (s : List ℕ) (i v n : ℕ) → i < length s → n / 8 ≡ i → bit (set s i v) n ≡ v / 2 ^ (n % 8) % 2

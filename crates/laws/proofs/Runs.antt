@@ -10,8 +10,10 @@
 --   run-join, placed-join        m more bits
 --   run-more, placed-more        one more bit
 --   placed-below, placed-above   the places before and after b bits of x placed at h are 0
---   placed-in                    the places between are x
+--   placed-in                    the places between are those of x
+--   placed-each                  what holds in all three cases, holds of the placed run
 --   placed-none                  no bits placed
+--   placed-same                  equal bits placed
 use mathlib.Core.Path.{_≡_, refl, sym, ap, _∙_}
 use Prim.Native.Nat.{ℕ, _+_, _-_, _≤_, _<_}
 use native.Mathlib.Decide.{decLt}
@@ -64,20 +66,22 @@ module _ (h b : ℕ) (x : ℕ → ℕ) (n : ℕ) where
   pub placed-above : h + b ≤ n → placed h b x n ≡ 0
   placed-above l = run-high h zeros (run b x zeros) n (omega arith) ∙ run-high b x zeros (n - h) (omega arith)
 
+  pub placed-each : (P : ℕ → Type 0) → (n < h → P 0) → (h ≤ n → n < h + b → P (x (n - h))) → (h + b ≤ n → P 0) → P (placed h b x n)
+  placed-each P below within above =
+      run-each h zeros (run b x zeros) n P below
+      (λ l. run-each b x zeros (n - h) P (λ k. within l (omega arith)) (λ k. above (omega arith)))
+
 pub placed-none : (h : ℕ) (x : ℕ → ℕ) (n : ℕ) → placed h 0 x n ≡ 0
-placed-none h x n = run-each h zeros (run 0 x zeros) n (λ v. v ≡ 0) (λ l. refl) (λ l. run-none x zeros (n - h))
+placed-none h x n = placed-each h 0 x n (λ v. v ≡ 0) (λ l. refl) (λ l k. absurd (omega arith)) (λ l. refl)
 
 pub run-join : (b m : ℕ) (x : ℕ → ℕ) (n : ℕ) → run (b + m) x zeros n ≡ run b x zeros n + placed b m (λ t. x (b + t)) n
-run-join b m x n = elim (decLt n b) [
-  | yes l ↦ rw (run-low (b + m) x zeros n (omega arith), run-low b x zeros n l, placed-below b m (λ t. x (b + t)) n l) (omega arith)
-  | no l ↦ let h : b ≤ n = omega arith in elim (decLt n (b + m)) [
-    | yes k ↦
-        let e : b + (n - b) ≡ n = omega arith in
-        rw (run-low (b + m) x zeros n k, run-high b x zeros n h, placed-in b m (λ t. x (b + t)) n h k, e) (omega arith)
-    | no k ↦
-        rw (run-high (b + m) x zeros n (omega arith), run-high b x zeros n h, placed-above b m (λ t. x (b + t)) n (omega arith))
-  ]
-]
+run-join b m x n =
+    placed-each b m (λ t. x (b + t)) n (λ v. run (b + m) x zeros n ≡ run b x zeros n + v)
+    (λ l. rw (run-low (b + m) x zeros n (omega arith), run-low b x zeros n l) (omega arith))
+    (λ l k.
+    let e : b + (n - b) ≡ n = omega arith in
+    rw (run-low (b + m) x zeros n k, run-high b x zeros n l, e) (omega arith))
+    (λ l. rw (run-high (b + m) x zeros n l, run-high b x zeros n (omega arith)))
 
 pub placed-join : (h b m : ℕ) (x : ℕ → ℕ) (n : ℕ) → placed h (b + m) x n ≡ placed h b x n + placed (h + b) m (λ t. x (b + t)) n
 placed-join h b m x n =
@@ -85,18 +89,20 @@ placed-join h b m x n =
     ∙ run-sum h zeros (run b x zeros) zeros (placed b m (λ t. x (b + t))) n
     ∙ ap (λ (v : ℕ). placed h b x n + v) (run-run h b (run m (λ t. x (b + t)) zeros) n)
 
--- a single bit placed
-single : (h : ℕ) (x y : ℕ → ℕ) → x 0 ≡ y 0 → (n : ℕ) → placed h 1 x n ≡ placed h 1 y n
-single h x y e =
-    run-same h zeros (run 1 x zeros) zeros (run 1 y zeros) (λ k l. refl)
-    (run-same 1 x zeros y zeros (λ k l. let z : k ≡ 0 = omega arith in rw z e) (λ k. refl))
+pub placed-same : (h b : ℕ) (x y : ℕ → ℕ) → ((t : ℕ) → t < b → x t ≡ y t) → (n : ℕ) → placed h b x n ≡ placed h b y n
+placed-same h b x y e =
+    run-same h zeros (run b x zeros) zeros (run b y zeros) (λ k l. refl) (run-same b x zeros y zeros e (λ k. refl))
+
+-- a single bit that stands for the first of x
+single : (h : ℕ) (x : ℕ → ℕ) (v : ℕ) → x 0 ≡ v → (n : ℕ) → placed h 1 x n ≡ placed h 1 (λ t. v) n
+single h x v e = placed-same h 1 x (λ t. v) (λ t l. let z : t ≡ 0 = omega arith in rw z e)
 
 pub run-more : (b : ℕ) (x : ℕ → ℕ) (n : ℕ) → run (b + 1) x zeros n ≡ run b x zeros n + placed b 1 (λ t. x b) n
 run-more b x n =
     run-join b 1 x n
-    ∙ ap (λ (v : ℕ). run b x zeros n + v) (single b (λ t. x (b + t)) (λ t. x b) (ap x (omega arith)) n)
+    ∙ ap (λ (v : ℕ). run b x zeros n + v) (single b (λ t. x (b + t)) (x b) (ap x (omega arith)) n)
 
 pub placed-more : (h b : ℕ) (x : ℕ → ℕ) (n : ℕ) → placed h (b + 1) x n ≡ placed h b x n + placed (h + b) 1 (λ t. x b) n
 placed-more h b x n =
     placed-join h b 1 x n
-    ∙ ap (λ (v : ℕ). placed h b x n + v) (single (h + b) (λ t. x (b + t)) (λ t. x b) (ap x (omega arith)) n)
+    ∙ ap (λ (v : ℕ). placed h b x n + v) (single (h + b) (λ t. x (b + t)) (x b) (ap x (omega arith)) n)

@@ -1,0 +1,53 @@
+-- `bits::clear` meets its contract. The invariant: the first i bytes are zeros, and the others as they were.
+use borrow.Author.Needs.{needs}
+use borrow.Author.Fill.{fill-none, fill-more}
+use mathlib.Core.Path.{_≡_}
+use mathlib.Core.List.{_++_}
+use Prim.Native.Nat.{_-_, _≤_}
+use native.Mathlib.Omega.{arith}
+use lib.ListN.{length, drop, replicate}
+use Rattle.bits.proofs.clear.Statement.{statement}
+use Rattle.bits.proofs.clear.Tie as tie
+
+abbrev Inv-loop : tie.InvT-loop
+Inv-loop s₀ count i₀ s i = (i ≤ count) × (length s ≡ length s₀) × (s ≡ replicate i 0 ++ drop i s₀)
+
+abbrev μ-loop : tie.MeasureT-loop
+μ-loop s₀ count i₀ s i = count - i
+
+loop-holds : tie.Need-loop-holds Inv-loop μ-loop
+loop-holds c = (search needs, search needs, fill-none _ 0)
+
+slice-write-s : tie.Need-slice-write-s Inv-loop μ-loop
+slice-write-s c = search needs
+
+add-i : tie.Need-add-i Inv-loop μ-loop
+add-i c = search needs
+
+loop-less : tie.Need-loop-less Inv-loop μ-loop
+loop-less c = search needs
+
+loop-again : tie.Need-loop-again Inv-loop μ-loop
+loop-again c =
+    let l = c .before .loop in
+    (search needs, search needs, rw (l .inv .2) (fill-more (l .i) 0 (c .before .before .args .s .now) (omega arith)))
+
+same-length : tie.Need-same-length Inv-loop μ-loop
+same-length c = search needs
+
+returns : tie.Need-returns Inv-loop μ-loop
+returns c = let e : c .before .loop .i ≡ c .before .before .args .count = omega arith in rw e at (c .before .loop .inv .2)
+
+pub clear-spec : {M : Type 1} → statement M
+clear-spec =
+    tie.close
+    (tie.spec
+    Inv-loop
+    μ-loop
+    loop-holds
+    slice-write-s
+    add-i
+    loop-less
+    loop-again
+    same-length
+    returns)

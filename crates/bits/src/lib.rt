@@ -1,0 +1,99 @@
+// Bits in bytes, read and added: bit n is in byte n / 8, with weight 2 to the power n mod 8.
+ghost use mathlib.Core.Path.{_≡_};
+ghost use mathlib.Core.List.{_++_};
+ghost use Prim.Native.Nat.{ℕ, _+_, _*_, _/_, _%_, _^_, _≤_, _<_};
+ghost use lib.ListN.{length, getD, drop, replicate};
+ghost use Rattle.rules.specs.Bits.{bit, need, placed};
+ghost use Rattle.bits.specs.Adds.{Adds, FirstSet};
+
+// The bytes that a run of bits takes.
+pub fn needed(bits: usize) -> usize
+    ensures { λ r. ⌜ r ≡ need bits ⌝ }
+{
+    bits / 8 + (bits % 8 + 7) / 8
+}
+
+// The byte and the weight of the place that is further on, by so many, than another: their sum may not fit.
+fn byte_of(place: usize, further: usize) -> usize
+    ensures { λ r. ⌜ r ≡ (place + further) / 8 ⌝ }
+{
+    place / 8 + further / 8 + (place % 8 + further % 8) / 8
+}
+
+fn weight_of(place: usize, further: usize) -> usize
+    ensures { λ r. ⌜ r ≡ (place + further) % 8 ⌝ }
+{
+    (place % 8 + further % 8) % 8
+}
+
+fn read(s: &[u8], byte: usize, weight: usize) -> u8
+    requires { ⌜ (byte < length (now s)) × (weight < 8) ⌝ }
+    ensures { λ r. ⌜ r ≡ getD (now (s .entry)) byte 0 / 2 ^ weight % 2 ⌝ }
+{
+    (s[byte] >> weight) % 2
+}
+
+fn add(s: &mut [u8], byte: usize, weight: usize, value: u8)
+    requires { ⌜ (byte < length (now s)) × (weight < 8) × (value < 2) ⌝ }
+    ensures { λ r. ⌜ Adds (now (s .entry)) (now (s .exit)) (placed (8 * byte + weight) 1 (λ t. value)) ⌝ }
+{
+    s[byte] = s[byte] ^ (value << weight);
+}
+
+pub fn bit_at(s: &[u8], place: usize) -> u8
+    requires { ⌜ place < 8 * length (now s) ⌝ }
+    ensures { λ r. ⌜ r ≡ bit (now (s .entry)) place ⌝ }
+{
+    read(s, place / 8, place % 8)
+}
+
+// Adds a bit, mod 2, to the one at a place.
+pub fn add_bit(s: &mut [u8], place: usize, value: u8)
+    requires { ⌜ (place < 8 * length (now s)) × (value < 2) ⌝ }
+    ensures { λ r. ⌜ Adds (now (s .entry)) (now (s .exit)) (placed place 1 (λ t. value)) ⌝ }
+{
+    add(s, place / 8, place % 8, value);
+}
+
+// Adds a run of bits, which stand in `from` from `start` on, to those from `at` on. Either may start inside a byte.
+pub fn add_run(s: &mut [u8], at: usize, from: &[u8], start: usize, count: usize)
+    requires { ⌜ (at + count ≤ 8 * length (now s)) × (start + count ≤ 8 * length (now from)) ⌝ }
+    ensures { λ r. ⌜ Adds (now (s .entry)) (now (s .exit)) (placed at count (λ t. bit (now (from .entry)) (start + t))) ⌝ }
+{
+    for t in 0..count {
+        let value = read(from, byte_of(start, t), weight_of(start, t));
+        add(s, byte_of(at, t), weight_of(at, t), value);
+    }
+}
+
+// Clears the first bytes.
+pub fn clear(s: &mut [u8], count: usize)
+    requires { ⌜ count ≤ length (now s) ⌝ }
+    ensures { λ r. ⌜ now (s .exit) ≡ replicate count 0 ++ drop count (now (s .entry)) ⌝ }
+{
+    for i in 0..count {
+        s[i] = 0;
+    }
+}
+
+pub fn copy(to: &mut [u8], from: &[u8])
+    requires { ⌜ length (now to) ≡ length (now from) ⌝ }
+    ensures { λ r. ⌜ now (to .exit) ≡ now (from .entry) ⌝ }
+{
+    for i in 0..from.len() {
+        to[i] = from[i];
+    }
+}
+
+// The lowest place that is 1, of those from `from` on and below `to`; else `to`.
+pub fn first_set(s: &[u8], from: usize, to: usize) -> usize
+    requires { ⌜ (from ≤ to) × (to ≤ 8 * length (now s)) ⌝ }
+    ensures { λ r. ⌜ FirstSet (now (s .entry)) from to r ⌝ }
+{
+    for place in from..to {
+        if bit_at(s, place) == 1 {
+            return place;
+        }
+    }
+    to
+}
