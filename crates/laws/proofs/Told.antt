@@ -5,12 +5,18 @@
 --   told-first      a refusal that was told alone is told in any order that begins with it
 --   told-next       one that was not told leaves the rest of the order
 --   told-left       where none is told, the first refusal does not apply, and none of the rest is told
+--   good-count      a count that is not bad is 1 to 14,392
+--   right-bytes     bytes that are not wrong are as many as needed
 --   outcome-same    two outcomes, answer and later contents, are equal, if their numbers are and each case leaves one content only
 use mathlib.Core.Path.{_≡_, refl, sym, ap, _∙_}
 use mathlib.Core.Logic.{_⊎_, inl, inr, ⊎-elim}
-use Prim.Native.Nat.{ℕ, _<_}
+use mathlib.Core.List.{List}
+use Prim.Native.Nat.{ℕ, _≤_, _<_}
+use native.Mathlib.Decide.{ℕ-discrete, decLt}
 use native.Mathlib.Omega.{arith}
-use Rattle.rules.specs.Refusals.{told, none}
+use lib.ListN.{length}
+use Rattle.rules.specs.Numbers.{payloadMost}
+use Rattle.rules.specs.Refusals.{told, none, BadCount, WrongBytes}
 use Rattle.rules.specs.Promises.{number, by}
 use Rattle.rules.specs.declared.Answer.{Answer}
 use Rattle.rules.specs.declared.Answer.the-variants.{Done, Refused}
@@ -38,6 +44,22 @@ told-left h e t = ⊎-elim (λ a. absurd (omega (arith, a .1))) (λ b. b) t
 
 pub told-next : {A R : Type 0} {k r s : ℕ} → 0 < k → Begins A k r (r ≡ 0) → r ≡ 0 → R → Begins A k s R
 told-next h t e x = inr (told-left h e t .0, x)
+
+-- what it means that refusals 1 and 2 do not apply
+pub good-count : (K : ℕ) → (BadCount K → ⊥) → (0 < K) × (K ≤ payloadMost)
+good-count K h = elim (decLt payloadMost K) [
+  | yes l ↦ absurd (h (inr l))
+  | no l ↦ elim (ℕ-discrete K 0) [
+    | yes e ↦ absurd (h (inl e))
+    | no d ↦ (omega arith, omega arith)
+  ]
+]
+
+pub right-bytes : (s : List ℕ) (n : ℕ) → (WrongBytes s n → ⊥) → length s ≡ n
+right-bytes s n h = elim (ℕ-discrete (length s) n) [
+  | yes e ↦ e
+  | no d ↦ absurd (h d)
+]
 
 -- an outcome o is the later contents of what was lent; G says that it is of bytes, P what a done operation leaves, Q what a refused one does
 module _ {O : Type 0} (G P Q : O → Type 0) (done : (o o′ : O) → G o → G o′ → P o → P o′ → o ≡ o′) (kept : (o o′ : O) → Q o → Q o′ → o ≡ o′) where

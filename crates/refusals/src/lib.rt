@@ -1,9 +1,9 @@
 // Paper 01, 'Refusal numbers': a test for each refusal, which answers its number or 0, and each operation's order of tests.
 ghost use mathlib.Core.Path.{_≡_};
-ghost use Prim.Native.Nat.{_≤_, _<_};
+ghost use Prim.Native.Nat.{_+_, _≤_, _<_};
 ghost use lib.ListN.{length};
 ghost use Rattle.rules.specs.Bits.{need, UnusedSet};
-ghost use Rattle.rules.specs.Refusals.{told, none, BadCount, BadDelimiter, NoRoom, TooMany, SomeShortened};
+ghost use Rattle.rules.specs.Refusals.{told, none, BadCount, WrongBytes, BadDelimiter, NoRoom, TooMany, SomeShortened};
 ghost use Rattle.rules.specs.Refusals.{EncodeTold, PieceTold, FinishTold, CompleteTold, WordTold, LineTold};
 
 // 1: the count of payload bits is 0, or above 14,392.
@@ -19,11 +19,11 @@ fn bad_count(count: usize) -> usize
     0
 }
 
-// 2: the bytes given are not exactly the number needed.
-fn wrong_bytes(given: usize, wanted: usize) -> usize
-    ensures { λ r. ⌜ told (given ≡ wanted → ⊥) 2 none r ⌝ }
+// 2: the bytes given are not exactly the number that a run of so many bits takes.
+fn wrong_bytes(s: &[u8], count: usize) -> usize
+    ensures { λ r. ⌜ told (WrongBytes (now (s .entry)) (need count)) 2 none r ⌝ }
 {
-    if given != wanted {
+    if s.len() != bits::needed(count) {
         return 2;
     }
     0
@@ -107,7 +107,7 @@ pub fn encode(count: usize, payload: &[u8], delimiter: usize, room: usize) -> us
     if first != 0 {
         return first;
     }
-    let second = wrong_bytes(payload.len(), bits::needed(count));
+    let second = wrong_bytes(payload, count);
     if second != 0 {
         return second;
     }
@@ -130,7 +130,7 @@ pub fn piece(held: usize, count: usize, bytes: &[u8]) -> usize
     if first != 0 {
         return first;
     }
-    let second = wrong_bytes(bytes.len(), bits::needed(count));
+    let second = wrong_bytes(bytes, count);
     if second != 0 {
         return second;
     }
@@ -168,7 +168,7 @@ pub fn complete(count: usize, word: &[u8]) -> usize
     if first != 0 {
         return first;
     }
-    let second = wrong_bytes(word.len(), 2208);
+    let second = wrong_bytes(word, 17664);
     if second != 0 {
         return second;
     }
@@ -183,7 +183,7 @@ pub fn check_word(count: usize, word: &[u8]) -> usize
     if first != 0 {
         return first;
     }
-    wrong_bytes(word.len(), 2208)
+    wrong_bytes(word, 17664)
 }
 
 // Line check: 1, 2, 3, 4.
@@ -194,7 +194,7 @@ pub fn check_line(count: usize, line: &[u8], delimiter: usize) -> usize
     if first != 0 {
         return first;
     }
-    let second = wrong_bytes(line.len(), bits::needed(count + 2570));
+    let second = wrong_bytes(line, count + 2570);
     if second != 0 {
         return second;
     }
