@@ -4,6 +4,7 @@
 --   told-single     an order tells one number, if what follows its first refusal does
 --   told-first      a refusal that was told alone is told in any order that begins with it
 --   told-next       one that was not told leaves the rest of the order
+--   told-before     the first of two numbers told, or else the later one
 --   told-left       where none is told, the first refusal does not apply, and none of the rest is told
 --   good-count      a count that is not bad is 1 to 14,392
 --   right-bytes     bytes that are not wrong are as many as needed
@@ -44,6 +45,11 @@ told-left h e t = ⊎-elim (λ a. absurd (omega (arith, a .1))) (λ b. b) t
 
 pub told-next : {A R : Type 0} {k r s : ℕ} → 0 < k → Begins A k r (r ≡ 0) → r ≡ 0 → R → Begins A k s R
 told-next h t e x = inr (told-left h e t .0, x)
+
+-- r is the first of two numbers told, or else the later one
+pub told-before : {A R : Type 0} {k r first later : ℕ} → 0 < k → Begins A k first (first ≡ 0) → (first ≡ 0 → r ≡ later) × ((first ≡ 0 → ⊥) → r ≡ first)
+    → (r ≡ later → R) → Begins A k r R
+told-before h t b rest = ⊎-elim (λ a. inl (a .0, b .1 (λ e. omega (arith, a .1)) ∙ a .1)) (λ a. inr (a .0, rest (b .0 (a .1)))) t
 
 -- what it means that refusals 1 and 2 do not apply
 pub good-count : (K : ℕ) → (BadCount K → ⊥) → (0 < K) × (K ≤ payloadMost)

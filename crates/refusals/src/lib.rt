@@ -99,6 +99,16 @@ fn shortened_set(count: usize, word: &[u8]) -> usize
     0
 }
 
+// The number that an order tells of two tests: the first one's, or else the later one's.
+fn earlier(first: usize, later: usize) -> usize
+    ensures { λ r. ⌜ (first ≡ 0 → r ≡ later) × ((first ≡ 0 → ⊥) → r ≡ first) ⌝ }
+{
+    if first != 0 {
+        return first;
+    }
+    later
+}
+
 // Encode: 1, 2, 3, 4, 5.
 pub fn encode(count: usize, payload: &[u8], delimiter: usize, room: usize) -> usize
     ensures { λ r. ⌜ EncodeTold count (now (payload .entry)) delimiter room r ⌝ }
@@ -112,52 +122,37 @@ pub fn encode(count: usize, payload: &[u8], delimiter: usize, room: usize) -> us
         return second;
     }
     let third = unused_set(payload, count);
-    if third != 0 {
-        return third;
-    }
     let fourth = bad_delimiter(delimiter);
-    if fourth != 0 {
-        return fourth;
-    }
-    no_room(room, count + 2570)
+    let fifth = no_room(room, count + 2570);
+    earlier(third, earlier(fourth, fifth))
 }
 
 // Piece: 7, 2, 3, 6.
 pub fn piece(held: usize, count: usize, bytes: &[u8]) -> usize
     ensures { λ r. ⌜ PieceTold held count (now (bytes .entry)) r ⌝ }
 {
-    let first = too_many(held);
-    if first != 0 {
-        return first;
+    let seventh = too_many(held);
+    if seventh != 0 {
+        return seventh;
     }
     let second = wrong_bytes(bytes, count);
     if second != 0 {
         return second;
     }
     let third = unused_set(bytes, count);
-    if third != 0 {
-        return third;
-    }
-    too_many_with(held, count)
+    let sixth = too_many_with(held, count);
+    earlier(third, sixth)
 }
 
 // Finish: 7, 1, 4, 5.
 pub fn finish(held: usize, delimiter: usize, room: usize) -> usize
     ensures { λ r. ⌜ FinishTold held delimiter room r ⌝ }
 {
-    let first = too_many(held);
-    if first != 0 {
-        return first;
-    }
-    let second = bad_count(held);
-    if second != 0 {
-        return second;
-    }
-    let third = bad_delimiter(delimiter);
-    if third != 0 {
-        return third;
-    }
-    no_room(room, 2570)
+    let seventh = too_many(held);
+    let first = bad_count(held);
+    let fourth = bad_delimiter(delimiter);
+    let fifth = no_room(room, 2570);
+    earlier(seventh, earlier(first, earlier(fourth, fifth)))
 }
 
 // Complete: 1, 2, 8.
@@ -180,10 +175,8 @@ pub fn check_word(count: usize, word: &[u8]) -> usize
     ensures { λ r. ⌜ WordTold count (now (word .entry)) r ⌝ }
 {
     let first = bad_count(count);
-    if first != 0 {
-        return first;
-    }
-    wrong_bytes(word, 17664)
+    let second = wrong_bytes(word, 17664);
+    earlier(first, second)
 }
 
 // Line check: 1, 2, 3, 4.
@@ -199,8 +192,6 @@ pub fn check_line(count: usize, line: &[u8], delimiter: usize) -> usize
         return second;
     }
     let third = unused_set(line, count + 2570);
-    if third != 0 {
-        return third;
-    }
-    bad_delimiter(delimiter)
+    let fourth = bad_delimiter(delimiter);
+    earlier(third, fourth)
 }
