@@ -47,7 +47,9 @@ module _ (b : ℕ) (x y x′ y′ : ℕ → ℕ) where
       run-each b x y n (λ v. v ≡ run b x′ y′ n) (λ h. rw run-low (low n h)) (λ h. rw run-high (high (n - b)))
 
   pub run-sum : (n : ℕ) → run b (λ k. x k + x′ k) (λ k. y k + y′ k) n ≡ run b x y n + run b x′ y′ n
-  run-sum n = run-each b _ _ n (λ v. v ≡ run b x y n + run b x′ y′ n) (λ h. rw (run-low b x y n, run-low b x′ y′ n)) (λ h. rw (run-high b x y n, run-high b x′ y′ n))
+  run-sum n =
+      run-each b _ _ n (λ v. v ≡ run b x y n + run b x′ y′ n) (λ h. rw (run-low b x y n, run-low b x′ y′ n))
+      (λ h. rw (run-high b x y n, run-high b x′ y′ n))
 
 pub run-run : (h b : ℕ) (y : ℕ → ℕ) (n : ℕ) → run h zeros (run b zeros y) n ≡ run (h + b) zeros y n
 run-run h b y n =
@@ -77,9 +79,7 @@ pub run-more : (b : ℕ) (x : ℕ → ℕ) (n : ℕ) → run (b + 1) x zeros n �
 run-more b x n =
     placed-each b 1 (λ t. x b) n (λ v. run (b + 1) x zeros n ≡ run b x zeros n + v)
     (λ l. rw (run-low (b + 1) x zeros n (omega arith), run-low b x zeros n l) (omega arith))
-    (λ l k.
-    let e : n ≡ b = omega arith in
-    rw (run-low (b + 1) x zeros n k, run-high b x zeros n l, e) (omega arith))
+    (λ l k. let e : n ≡ b = omega arith in rw (run-low (b + 1) x zeros n k, run-high b x zeros n l, e) (omega arith))
     (λ l. rw (run-high (b + 1) x zeros n l, run-high b x zeros n (omega arith)))
 
 pub placed-more : (h b : ℕ) (x : ℕ → ℕ) (n : ℕ) → placed h (b + 1) x n ≡ placed h b x n + placed (h + b) 1 (λ t. x b) n
