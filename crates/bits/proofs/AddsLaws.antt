@@ -1,24 +1,22 @@
 -- Laws of bits added to bytes.
 --
---   adds-none     what is 0 everywhere adds nothing
---   adds-then     one after the other
---   adds-as       by an equal function
---   adds-more     one more summand of a sum of functions
---   adds-bit      the exclusive or of one byte with a value at a weight
---   adds-run      one more bit of a run
---   adds-placed   one more bit of a placed run
---   adds-mid      what is added to a part, is added to the whole there
+--   adds-none        what is 0 everywhere adds nothing
+--   adds-then        one after the other
+--   adds-as          by an equal function
+--   adds-more        one more summand of a sum of functions
+--   adds-run         one more bit of a run
+--   adds-placed      one more bit of a placed run
+--   stored s i w v   s after an exclusive or: of its byte i with the bit v at the weight w
+--   adds-bit         which adds v to bit 8 i + w
+--   adds-mid         what is added to a part, is added to the whole at its places
 use mathlib.Core.Path.{_≡_, refl, sym, ap, _∙_}
-use mathlib.Core.Bool.{cond}
 use mathlib.Core.List.{List}
 use Prim.Native.Nat.{ℕ, _+_, _-_, _*_, _/_, _%_, _^_, _≤_, _<_}
 use native.Mathlib.Numerals.{add-one}
-use native.Mathlib.Decide.{ℕ-discrete, decLt}
+use native.Mathlib.Decide.{ℕ-discrete}
 use native.Mathlib.Omega.{arith}
 use lib.Bits.{bitXor}
-use lib.Dec.{eqb}
 use lib.ListN.{length, getD, set, take, drop, length-set, length-take, length-drop}
-use borrow.Author.Tests.{eq-eqb, ne-eqb}
 use Rattle.rules.specs.Bits.{bit, zeros, run, placed}
 use Rattle.rules.specs.Matrix.{total}
 use Rattle.laws.proofs.Bits.{bit<, bit-xor, bit-weight, bit-set, bit-set-other, bit-part, mid, length-mid, bit-mid, bit-below, bit-above}
@@ -28,36 +26,40 @@ use Rattle.bits.specs.Adds.{Adds}
 pub adds-none : (s : List ℕ) (f : ℕ → ℕ) → ((n : ℕ) → f n ≡ 0) → Adds s s f
 adds-none s f z = record { length-same = refl; each = λ n. omega (arith, z n, bit< s n) }
 
-module _ {s t u : List ℕ} where
-  pub adds-then : {f g : ℕ → ℕ} → Adds s t f → Adds t u g → Adds s u (λ n. f n + g n)
-  adds-then p q = record { length-same = q .length-same ∙ p .length-same; each = λ n. q .each n ∙ omega (arith, p .each n) }
+pub adds-then : {s t u : List ℕ} {f g : ℕ → ℕ} → Adds s t f → Adds t u g → Adds s u (λ n. f n + g n)
+adds-then p q = record { length-same = q .length-same ∙ p .length-same; each = λ n. q .each n ∙ omega (arith, p .each n) }
 
 pub adds-as : {s t : List ℕ} {f g : ℕ → ℕ} → ((n : ℕ) → f n ≡ g n) → Adds s t f → Adds s t g
 adds-as e p = record { length-same = p .length-same; each = λ n. rw (← e n) (p .each n) }
 
-pub adds-more : {s t u : List ℕ} (f : ℕ → ℕ → ℕ) {n : ℕ} → Adds s t (λ k. total n (λ i. f i k)) → Adds t u (f n) → Adds s u (λ k. total (n + 1) (λ i. f i k))
-unfolding total
-adds-more f {n} p q = adds-as (λ k. rw (add-one n)) (adds-then p q)
+module _ {s t u : List ℕ} where
+  pub adds-more : (f : ℕ → ℕ → ℕ) {n : ℕ} → Adds s t (λ k. total n (λ i. f i k)) → Adds t u (f n)
+      → Adds s u (λ k. total (n + 1) (λ i. f i k))
+  unfolding total
+  adds-more f {n} p q = adds-as (λ k. rw (add-one n)) (adds-then p q)
 
--- one more bit of a run, and of a placed run
-module _ {s t u : List ℕ} (x : ℕ → ℕ) {v : ℕ} where
-  pub adds-run : {b : ℕ} → Adds s t (run b x zeros) → v ≡ x b → Adds t u (placed b 1 (λ k. v)) → Adds s u (run (b + 1) x zeros)
-  adds-run {b} p e q = adds-as (λ n. sym (run-more b x n)) (adds-then p (rw e at q))
+  module _ (x : ℕ → ℕ) {b v : ℕ} (e : v ≡ x b) where
+    pub adds-run : Adds s t (run b x zeros) → Adds t u (placed b 1 (λ k. v)) → Adds s u (run (b + 1) x zeros)
+    adds-run p q = adds-as (λ n. sym (run-more b x n)) (adds-then p (rw e at q))
 
-  pub adds-placed : (h : ℕ) {b : ℕ} → Adds s t (placed h b x) → v ≡ x b → Adds t u (placed (h + b) 1 (λ k. v)) → Adds s u (placed h (b + 1) x)
-  adds-placed h {b} p e q = adds-as (λ n. sym (placed-more h b x n)) (adds-then p (rw e at q))
+    pub adds-placed : (h : ℕ) → Adds s t (placed h b x) → Adds t u (placed (h + b) 1 (λ k. v)) → Adds s u (placed h (b + 1) x)
+    adds-placed h p q = adds-as (λ n. sym (placed-more h b x n)) (adds-then p (rw e at q))
 
--- s with the bit v added to its byte i at the weight w
 abbrev pub stored : List ℕ → ℕ → ℕ → ℕ → List ℕ
 stored s i w v = set s i (bitXor (getD s i 0) ((v * 2 ^ w) % 2 ^ 8))
 
 module _ (s : List ℕ) (i w v : ℕ) (hi : i < length s) (hw : w < 8) (hv : v < 2) where
+  in-byte : (n : ℕ) → n / 8 ≡ i → placed (8 * i + w) 1 (λ t. v) n ≡ placed w 1 (λ t. v) (n % 8)
+  in-byte n e =
+      sym (run-run (8 * i) w (run 1 (λ t. v) zeros) n)
+      ∙ run-high (8 * i) zeros (placed w 1 (λ t. v)) n (omega arith)
+      ∙ ap (placed w 1 (λ t. v)) (omega arith)
+
   same-byte : (n : ℕ) → n / 8 ≡ i → bit (stored s i w v) n ≡ (bit s n + placed (8 * i + w) 1 (λ t. v) n) % 2
   same-byte n e =
-      let r : n - 8 * i ≡ n % 8 = omega arith in
       bit-set s i _ n hi e
       ∙ bit-xor (getD s i 0) _ (n % 8)
-      ∙ rw (bit-weight w (n % 8) v hw (omega arith) hv, ← run-run (8 * i) w (run 1 (λ t. v) zeros) n, run-high (8 * i) zeros (placed w 1 (λ t. v)) n (omega arith), r, e)
+      ∙ rw (bit-weight w (n % 8) v hw (omega arith) hv, in-byte n e, e)
 
   other-byte : (n : ℕ) → (n / 8 ≡ i → ⊥) → placed (8 * i + w) 1 (λ t. v) n ≡ 0
   other-byte n d = placed-each (8 * i + w) 1 (λ t. v) n (λ x. x ≡ 0) (λ l. refl) (λ l k. absurd (d (omega arith))) (λ l. refl)
@@ -89,6 +91,6 @@ module _ (s p : List ℕ) (a k : ℕ) (f : ℕ → ℕ) (fits : a + k ≤ length
     each = λ n.
         placed-each (8 * a) (8 * k) f n (λ v. bit (mid a k s p) n ≡ (bit s n + v) % 2)
         (λ l. bit-below s p a k fits long n l ∙ omega (arith, bit< s n))
-        (λ l h. inside n l h)
+        (inside n)
         (λ l. bit-above s p a k fits long n (omega arith) ∙ omega (arith, bit< s n));
   }

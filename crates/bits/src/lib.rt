@@ -1,7 +1,8 @@
-// Bits in bytes, read and added: bit n is in byte n / 8, with weight 2 to the power n mod 8.
+// Bits in bytes: read, added, moved in runs, cleared, copied and searched.
+// Bit n is in byte n / 8, with weight 2 to the power n mod 8. A slice may have more bits than a usize can count.
 ghost use mathlib.Core.Path.{_≡_};
 ghost use mathlib.Core.List.{_++_};
-ghost use Prim.Native.Nat.{ℕ, _+_, _*_, _/_, _%_, _^_, _≤_, _<_};
+ghost use Prim.Native.Nat.{_+_, _*_, _/_, _%_, _^_, _≤_, _<_};
 ghost use lib.ListN.{length, getD, drop, replicate};
 ghost use Rattle.rules.specs.Bits.{bit, need, placed};
 ghost use Rattle.bits.specs.Adds.{Adds, FirstSet};
@@ -13,7 +14,7 @@ pub fn needed(bits: usize) -> usize
     bits / 8 + (bits % 8 + 7) / 8
 }
 
-// The byte and the weight of the place that is further on, by so many, than another: their sum may not fit.
+// The byte of bit place + further, and below that its weight. The sum itself may not fit.
 fn byte_of(place: usize, further: usize) -> usize
     ensures { λ r. ⌜ r ≡ (place + further) / 8 ⌝ }
 {
@@ -26,6 +27,7 @@ fn weight_of(place: usize, further: usize) -> usize
     (place % 8 + further % 8) % 8
 }
 
+// The bit of a byte at a weight, read; and below that, added to.
 fn read(s: &[u8], byte: usize, weight: usize) -> u8
     requires { ⌜ (byte < length (now s)) × (weight < 8) ⌝ }
     ensures { λ r. ⌜ r ≡ getD (now (s .entry)) byte 0 / 2 ^ weight % 2 ⌝ }
@@ -40,6 +42,7 @@ fn add(s: &mut [u8], byte: usize, weight: usize, value: u8)
     s[byte] = s[byte] ^ (value << weight);
 }
 
+// The bit at a place.
 pub fn bit_at(s: &[u8], place: usize) -> u8
     requires { ⌜ place < 8 * length (now s) ⌝ }
     ensures { λ r. ⌜ r ≡ bit (now (s .entry)) place ⌝ }
@@ -55,7 +58,7 @@ pub fn add_bit(s: &mut [u8], place: usize, value: u8)
     add(s, place / 8, place % 8, value);
 }
 
-// Adds a run of bits, which stand in `from` from `start` on, to those from `at` on. Either may start inside a byte.
+// Adds `count` bits of `from`, those from `start` on, to the bits of `s` from `at` on. Both places may be inside a byte.
 pub fn add_run(s: &mut [u8], at: usize, from: &[u8], start: usize, count: usize)
     requires { ⌜ (at + count ≤ 8 * length (now s)) × (start + count ≤ 8 * length (now from)) ⌝ }
     ensures { λ r. ⌜ Adds (now (s .entry)) (now (s .exit)) (placed at count (λ t. bit (now (from .entry)) (start + t))) ⌝ }
@@ -66,7 +69,7 @@ pub fn add_run(s: &mut [u8], at: usize, from: &[u8], start: usize, count: usize)
     }
 }
 
-// Clears the first bytes.
+// Sets the first `count` bytes to 0.
 pub fn clear(s: &mut [u8], count: usize)
     requires { ⌜ count ≤ length (now s) ⌝ }
     ensures { λ r. ⌜ now (s .exit) ≡ replicate count 0 ++ drop count (now (s .entry)) ⌝ }
@@ -76,6 +79,7 @@ pub fn clear(s: &mut [u8], count: usize)
     }
 }
 
+// Makes all of `to` equal to `from`.
 pub fn copy(to: &mut [u8], from: &[u8])
     requires { ⌜ length (now to) ≡ length (now from) ⌝ }
     ensures { λ r. ⌜ now (to .exit) ≡ now (from .entry) ⌝ }
@@ -85,7 +89,7 @@ pub fn copy(to: &mut [u8], from: &[u8])
     }
 }
 
-// The lowest place that is 1, of those from `from` on and below `to`; else `to`.
+// The lowest place that is 1, of those from `from` on and below `to`; `to` where there is none.
 pub fn first_set(s: &[u8], from: usize, to: usize) -> usize
     requires { ⌜ (from ≤ to) × (to ≤ 8 * length (now s)) ⌝ }
     ensures { λ r. ⌜ FirstSet (now (s .entry)) from to r ⌝ }

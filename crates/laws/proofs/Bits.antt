@@ -1,22 +1,24 @@
--- Laws of bits in bytes: bits read, stored, of a part of a list, of a list whose part was replaced, and the bytes of given bits.
+-- Laws of bits in bytes: a bit read, a byte stored, a part of a list, a part replaced, and the bytes that hold given bits.
 --
---   bit<                        a bit is below 2
---   bit-past                    past the end of a list every bit is 0
---   bit-xor                     a bit of an exclusive or is the sum mod 2
---   bit-weight                  a byte that has the bit v at weight w is v there and 0 elsewhere
---   bit-set, bit-set-other      a bit of a byte that was stored, and of another
---   bit-part                    a bit of the k bytes from a
---   mid a k s p                 s with its k bytes from a replaced by p
---   length-mid                  is as long as s
---   bit-mid                     has p's bits there
---   bit-below, bit-above        and those of s elsewhere
---   mid-rest                    where all from a on is replaced
---   bit-zeros                   a bit of zero bytes
---   bit-cleared, bit-kept       a bit of s whose first k bytes were cleared: of these, and of the others
---   bits-same                   lists of bytes of one length with the same bits are equal
---   pack n f                    the n bytes that hold the bits of f
---   length-pack, bytes-pack     n of them, each below 256
---   bit-pack                    bit k of them is f k
+--   bit<                      a bit is below 2
+--   bit-past                  past the end of a list every bit is 0
+--   bit-xor                   a bit of an exclusive or is the sum mod 2
+--   bit-weight                the byte that has the bit v at the weight w is v there and 0 elsewhere
+--   bit-set, bit-set-other    a bit of a byte that was stored, and of another
+--   bit-take, bit-drop        a bit of the first k bytes, and of all from byte a on
+--   bit-front, bit-back       a bit of the first of two lists that are joined, and of the second
+--   bit-part                  a bit of the k bytes from a on
+--   mid a k s p               s with its k bytes from a on replaced by p
+--   length-mid                it is as long as s
+--   bit-mid                   it has p's bits there
+--   bit-below, bit-above      and those of s below and above
+--   mid-rest                  where all from a on is replaced
+--   bit-zeros                 a bit of zero bytes
+--   bit-cleared, bit-kept     a bit of s with its first k bytes cleared: one of these, and another
+--   bits-same                 lists of bytes of one length with the same bits are equal
+--   pack n f                  n bytes that hold the bits of f
+--   length-pack, bytes-pack   they are n, and each is below 256
+--   bit-pack                  their bit k is f k
 use mathlib.Core.Path.{_≡_, refl, sym, ap, _∙_}
 use mathlib.Core.Bool.{Bool}
 use mathlib.Core.List.{List, [], _∷_, _++_, append-nil}

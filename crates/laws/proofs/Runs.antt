@@ -48,7 +48,9 @@ module _ (b : ℕ) (x y x′ y′ : ℕ → ℕ) where
       run-each b x y n (λ v. v ≡ run b x′ y′ n) (λ h. rw run-low (low n h)) (λ h. rw run-high (high (n - b)))
 
   pub run-sum : (n : ℕ) → run b (λ k. x k + x′ k) (λ k. y k + y′ k) n ≡ run b x y n + run b x′ y′ n
-  run-sum n = run-each b _ _ n (λ v. v ≡ run b x y n + run b x′ y′ n) (λ h. rw (run-low b x y n, run-low b x′ y′ n)) (λ h. rw (run-high b x y n, run-high b x′ y′ n))
+  run-sum n =
+      run-each b _ _ n (λ v. v ≡ run b x y n + run b x′ y′ n) (λ h. rw (run-low b x y n, run-low b x′ y′ n))
+      (λ h. rw (run-high b x y n, run-high b x′ y′ n))
 
 pub run-run : (h b : ℕ) (y : ℕ → ℕ) (n : ℕ) → run h zeros (run b zeros y) n ≡ run (h + b) zeros y n
 run-run h b y n =

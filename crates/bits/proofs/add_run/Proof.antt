@@ -52,7 +52,7 @@ loop-again c =
     let x : ℕ → ℕ = λ k. bit (a .from .now) (a .start + k) in
     let v : got .read .result ≡ x (l .loop .t) = cc in
     let e : 8 * to .before .byte-of2 .result + to .weight-of2 .result ≡ a .at + l .loop .t = omega arith in
-    (search needs, adds-placed x (a .at) (l .loop .inv .1) v (rw e at (c .before .before .add .ensures)))
+    (search needs, adds-placed x v (a .at) (l .loop .inv .1) (rw e at (c .before .before .add .ensures)))
 
 same-length : tie.Need-same-length Inv-loop μ-loop
 same-length c = search needs

@@ -1,0 +1,11 @@
+-- Paper 01, 'The matrix': what a row of a block reads, where the block is the identity moved right.
+--
+--   turned z b a r   bit r of the block b of z bits, turned by a: local row r has its one at local column (r + a) mod z
+--
+-- Believe this file beside the paper; nothing here is proved.
+use mathlib.Core.List.{List}
+use Prim.Native.Nat.{ℕ, _+_, _%_}
+use Rattle.rules.specs.Bits.{bit}
+
+abbrev pub turned : ℕ → List ℕ → ℕ → ℕ → ℕ
+turned z b a r = bit b ((r + a) % z)
