@@ -1,6 +1,6 @@
 // Paper 01, 'Refusal numbers': a test for each refusal, which answers its number or 0, and each operation's order of tests.
 ghost use mathlib.Core.Path.{_≡_};
-ghost use Prim.Native.Nat.{_+_, _≤_, _<_};
+ghost use Prim.Native.Nat.{ℕ, _+_, _*_, _≤_, _<_};
 ghost use lib.ListN.{length};
 ghost use Rattle.rules.specs.Bits.{need, UnusedSet};
 ghost use Rattle.rules.specs.Refusals.{told, none, BadCount, WrongBytes, BadDelimiter, NoRoom, TooMany, SomeShortened};
@@ -87,13 +87,26 @@ fn too_many(held: usize) -> usize
     0
 }
 
+// Where the payload places that so many bytes have end.
+fn payload_end(bytes: usize) -> usize
+    ensures { λ r. ⌜ (r ≤ 14592) × (r ≤ 8 * bytes) × ((n : ℕ) → n < 14592 → n < 8 * bytes → n < r) ⌝ }
+{
+    if 1824 <= bytes {
+        return 14592;
+    }
+    8 * bytes
+}
+
 // 8: a shortened place of the word is 1.
 fn shortened_set(count: usize, word: &[u8]) -> usize
-    requires { ⌜ (count ≤ 14392) × (length (now word) ≡ 2208) ⌝ }
     ensures { λ r. ⌜ told (SomeShortened count (now (word .entry))) 8 none r ⌝ }
 {
-    let place = bits::first_set(word, count, 14592);
-    if place < 14592 {
+    let end = payload_end(word.len());
+    if end <= count {
+        return 0;
+    }
+    let place = bits::first_set(word, count, end);
+    if place < end {
         return 8;
     }
     0
@@ -160,14 +173,9 @@ pub fn complete(count: usize, word: &[u8]) -> usize
     ensures { λ r. ⌜ CompleteTold count (now (word .entry)) r ⌝ }
 {
     let first = bad_count(count);
-    if first != 0 {
-        return first;
-    }
     let second = wrong_bytes(word, 17664);
-    if second != 0 {
-        return second;
-    }
-    shortened_set(count, word)
+    let eighth = shortened_set(count, word);
+    earlier(first, earlier(second, eighth))
 }
 
 // Full-word check: 1, 2.

@@ -1,0 +1,63 @@
+-- `refusals::check_line` meets its contract.
+use borrow.Author.Needs.{needs}
+use native.Mathlib.Omega.{arith}
+use Prim.Native.Nat.{_+_}
+use lib.Dec.{lit<}
+use Rattle.rules.specs.Bits.{need}
+use Rattle.laws.proofs.Told.{told-first, told-left, told-next, told-before, good-count, right-bytes}
+use Rattle.refusals.proofs.check_line.Statement.{statement}
+use Rattle.refusals.proofs.check_line.Tie as tie
+
+bad-count-requires : tie.Need-bad-count-requires
+bad-count-requires c κs = search needs
+
+returns : tie.Need-returns
+returns c =
+    told-first (c .before .bad-count .ensures) (c .if1 .taken)
+
+add-wrong-bytes : tie.Need-add-wrong-bytes
+add-wrong-bytes c =
+    omega (arith, good-count (c .before .before .before .args .count) (told-left (lit< tt) (c .if1 .left) (c .before .bad-count .ensures) .0) .1)
+
+wrong-bytes-requires : tie.Need-wrong-bytes-requires
+wrong-bytes-requires c κs = search needs
+
+returns-2 : tie.Need-returns-2
+returns-2 c =
+    told-next (lit< tt) (c .before .before .before .bad-count .ensures) (c .before .before .if1 .left)
+    (told-first (c .before .wrong-bytes .ensures) (c .if2 .taken))
+
+add-unused-set : tie.Need-add-unused-set
+add-unused-set c =
+    omega (arith, good-count (c .before .before .before .before .before .args .count) (told-left (lit< tt) (c .before .before .if1 .left) (c .before .before .before .bad-count .ensures) .0) .1)
+
+unused-set-requires : tie.Need-unused-set-requires
+unused-set-requires c κs =
+    right-bytes (c .before .before .before .before .before .args .line .now) (need (c .before .before .before .before .before .args .count + 2570)) (told-left (lit< tt) (c .if2 .left) (c .before .wrong-bytes .ensures) .0)
+
+bad-delimiter-requires : tie.Need-bad-delimiter-requires
+bad-delimiter-requires c κs = search needs
+
+earlier-requires : tie.Need-earlier-requires
+earlier-requires c κs = search needs
+
+returns-3 : tie.Need-returns-3
+returns-3 c =
+    told-next (lit< tt) (c .before .before .before .before .before .before .bad-count .ensures) (c .before .before .before .before .before .if1 .left)
+    (told-next (lit< tt) (c .before .before .before .before .wrong-bytes .ensures) (c .before .before .before .if2 .left)
+    (told-before (lit< tt) (c .before .before .unused-set .ensures) (c .earlier .ensures) (λ e. rw e (c .before .bad-delimiter .ensures))))
+
+pub check-line-spec : {M : Type 1} → statement M
+check-line-spec =
+    tie.close
+    (tie.spec
+    bad-count-requires
+    returns
+    add-wrong-bytes
+    wrong-bytes-requires
+    returns-2
+    add-unused-set
+    unused-set-requires
+    bad-delimiter-requires
+    earlier-requires
+    returns-3)

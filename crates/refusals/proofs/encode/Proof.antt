@@ -1,0 +1,67 @@
+-- `refusals::encode` meets its contract.
+use borrow.Author.Needs.{needs}
+use native.Mathlib.Omega.{arith}
+use lib.Dec.{lit<}
+use Rattle.rules.specs.Bits.{need}
+use Rattle.laws.proofs.Told.{told-first, told-left, told-next, told-before, good-count, right-bytes}
+use Rattle.refusals.proofs.encode.Statement.{statement}
+use Rattle.refusals.proofs.encode.Tie as tie
+
+bad-count-requires : tie.Need-bad-count-requires
+bad-count-requires c κs = search needs
+
+returns : tie.Need-returns
+returns c =
+    told-first (c .before .bad-count .ensures) (c .if1 .taken)
+
+wrong-bytes-requires : tie.Need-wrong-bytes-requires
+wrong-bytes-requires c κs = search needs
+
+returns-2 : tie.Need-returns-2
+returns-2 c =
+    told-next (lit< tt) (c .before .before .before .bad-count .ensures) (c .before .before .if1 .left)
+    (told-first (c .before .wrong-bytes .ensures) (c .if2 .taken))
+
+unused-set-requires : tie.Need-unused-set-requires
+unused-set-requires c κs =
+    right-bytes (c .before .before .before .before .before .args .payload .now) (need (c .before .before .before .before .before .args .count)) (told-left (lit< tt) (c .if2 .left) (c .before .wrong-bytes .ensures) .0)
+
+bad-delimiter-requires : tie.Need-bad-delimiter-requires
+bad-delimiter-requires c κs = search needs
+
+add-no-room : tie.Need-add-no-room
+add-no-room c =
+    omega (arith, good-count (c .before .before .before .before .before .before .before .args .count) (told-left (lit< tt) (c .before .before .before .before .if1 .left) (c .before .before .before .before .before .bad-count .ensures) .0) .1)
+
+no-room-requires : tie.Need-no-room-requires
+no-room-requires c κs = search needs
+
+earlier-requires : tie.Need-earlier-requires
+earlier-requires c κs = search needs
+
+earlier-requires-2 : tie.Need-earlier-requires-2
+earlier-requires-2 c κs = search needs
+
+returns-3 : tie.Need-returns-3
+returns-3 c =
+    told-next (lit< tt) (c .before .before .before .before .before .before .before .before .bad-count .ensures) (c .before .before .before .before .before .before .before .if1 .left)
+    (told-next (lit< tt) (c .before .before .before .before .before .before .wrong-bytes .ensures) (c .before .before .before .before .before .if2 .left)
+    (told-before (lit< tt) (c .before .before .before .before .unused-set .ensures) (c .earlier2 .ensures)
+    (λ e. rw e
+    (told-before (lit< tt) (c .before .before .before .bad-delimiter .ensures) (c .before .earlier .ensures) (λ e. rw e (c .before .before .no-room .ensures))))))
+
+pub encode-spec : {M : Type 1} → statement M
+encode-spec =
+    tie.close
+    (tie.spec
+    bad-count-requires
+    returns
+    wrong-bytes-requires
+    returns-2
+    unused-set-requires
+    bad-delimiter-requires
+    add-no-room
+    no-room-requires
+    earlier-requires
+    earlier-requires-2
+    returns-3)

@@ -1,0 +1,48 @@
+-- `refusals::finish` meets its contract.
+use borrow.Author.Needs.{needs}
+use lib.Dec.{lit<}
+use Rattle.laws.proofs.Told.{told-before}
+use Rattle.refusals.proofs.finish.Statement.{statement}
+use Rattle.refusals.proofs.finish.Tie as tie
+
+too-many-requires : tie.Need-too-many-requires
+too-many-requires c κs = search needs
+
+bad-count-requires : tie.Need-bad-count-requires
+bad-count-requires c κs = search needs
+
+bad-delimiter-requires : tie.Need-bad-delimiter-requires
+bad-delimiter-requires c κs = search needs
+
+no-room-requires : tie.Need-no-room-requires
+no-room-requires c κs = search needs
+
+earlier-requires : tie.Need-earlier-requires
+earlier-requires c κs = search needs
+
+earlier-requires-2 : tie.Need-earlier-requires-2
+earlier-requires-2 c κs = search needs
+
+earlier-requires-3 : tie.Need-earlier-requires-3
+earlier-requires-3 c κs = search needs
+
+returns : tie.Need-returns
+returns c =
+    told-before (lit< tt) (c .before .before .before .before .before .before .too-many .ensures) (c .earlier3 .ensures)
+    (λ e. rw e
+    (told-before (lit< tt) (c .before .before .before .before .before .bad-count .ensures) (c .before .earlier2 .ensures)
+    (λ e. rw e
+    (told-before (lit< tt) (c .before .before .before .before .bad-delimiter .ensures) (c .before .before .earlier .ensures) (λ e. rw e (c .before .before .before .no-room .ensures))))))
+
+pub finish-spec : {M : Type 1} → statement M
+finish-spec =
+    tie.close
+    (tie.spec
+    too-many-requires
+    bad-count-requires
+    bad-delimiter-requires
+    no-room-requires
+    earlier-requires
+    earlier-requires-2
+    earlier-requires-3
+    returns)
