@@ -4,18 +4,20 @@
 --   spot-below     what a block takes of bits is a bit
 --   term-same      so does a term, and
 --   term-below     a term of a word of bits is a bit
+--   turn-none, turn-some   what a block of the fibre code takes, by its turn
 --   check-column   a check of block j of a word alone is that column's term
 use mathlib.Core.Path.{_≡_, refl, sym, ap, _∙_}
 use Prim.Native.Nat.{ℕ, _+_, _-_, _*_, _/_, _%_, _≤_, _<_}
 use native.Mathlib.Nat.{mod-lt, mul-suc, mul-le-mul-left}
 use native.Mathlib.Decide.{decLt}
 use native.Mathlib.Omega.{arith}
-use lib.Dec.{lit<}
+use lib.Dec.{T, ltb→lt, lit<}
 use lib.IntN.{ℤ, pos, negsuc}
 use Rattle.rules.specs.Bits.{zeros, placed}
 use Rattle.rules.specs.Matrix.{Code, entry, total, check}
-use Rattle.rules.specs.Terms.{spot, term}
+use Rattle.rules.specs.Terms.{spot, term, turn}
 use Rattle.rules.proofs.Sums.{total-one}
+use Rattle.rules.proofs.TableLaws.{inRange}
 use Rattle.rules.proofs.Checks.{check-columns}
 use Rattle.laws.proofs.Runs.{placed-below, placed-in, placed-above}
 
@@ -30,6 +32,15 @@ spot-below z (negsuc n) f r bits = lit< tt
 spot-zeros : (z : ℕ) (a : ℤ) (r : ℕ) → spot z a zeros r ≡ 0
 spot-zeros z (pos a) r = refl
 spot-zeros z (negsuc n) r = refl
+
+-- a block of the fibre code by its turn
+pub turn-none : (a : ℤ) (f : ℕ → ℕ) (r : ℕ) → T (inRange a) → 256 ≤ turn a → spot 256 a f r ≡ 0
+turn-none (pos a) f r t h = absurd (omega (arith, ltb→lt a 256 t))
+turn-none (negsuc n) f r t h = refl
+
+pub turn-some : (a : ℤ) (f : ℕ → ℕ) (r : ℕ) → turn a < 256 → spot 256 a f r ≡ f ((r + turn a) % 256)
+turn-some (pos a) f r h = refl
+turn-some (negsuc n) f r h = absurd (omega arith)
 
 module _ (c : Code) (h : 0 < c .size) (n : ℕ) where
   pub term-same : (x y : ℕ → ℕ) (j : ℕ) → ((t : ℕ) → t < c .size → x (c .size * j + t) ≡ y (c .size * j + t)) → term c n x j ≡ term c n y j

@@ -3,8 +3,8 @@
 --   table-facts    69 lines of 12 entries, 828 in all, each from -1 to 255; 275 are not -1, of which 53 are in lines 58 to 69
 --   entry-range    so every entry of the code is from -1 to 255
 --   entry-fits     and fits 16 bits
---   entry-as       within the table, no default stands for an entry
-use mathlib.Core.Path.{_≡_, refl}
+--   entry-read     an entry that the code reads is that of the definitions
+use mathlib.Core.Path.{_≡_, refl, ap, _∙_}
 use mathlib.Core.Bool.{Bool, true, false}
 use mathlib.Core.List.{List, [], _∷_}
 use Prim.Native.Nat.{ℕ, zero, suc, _+_, _<_}
@@ -14,8 +14,9 @@ use lib.Dec.{T, ltb, eqb, ltb→lt, eqb→eq, lit<}
 use lib.IntN.{ℤ, pos, negsuc}
 use lib.ListN.{getD, length, drop}
 use lib.Signed.{mag}
+use mir.Facts.{toZ-ofZ}
 use mir.Syntax.{w16}
-use mir.Val.{SFits}
+use mir.Val.{SFits, toZ, ofZ}
 use Rattle.rules.specs.Matrix.{entry}
 use Rattle.rules.specs.Table.{lines, fibre}
 use Rattle.rules.proofs.Tests.{both, both-left, both-right, all, all-at, all-in}
@@ -70,6 +71,11 @@ getD-any [] i a b h = absurd (not-suc-le-zero h)
 getD-any (x ∷ xs) zero a b h = refl
 getD-any (x ∷ xs) (suc i) a b h = getD-any xs i a b (le-of-suc-le-suc h)
 
-pub entry-as : (i j : ℕ) (d : ℤ) → i < 12 → j < 69 → getD (getD lines j []) i d ≡ entry fibre i j
+-- within the table no default stands for an entry
+entry-as : (i j : ℕ) (d : ℤ) → i < 12 → j < 69 → getD (getD lines j []) i d ≡ entry fibre i j
 unfolding entry
 entry-as i j d hi hj = getD-any (getD lines j []) i d (negsuc 0) (omega (arith, twelve j hj))
+
+-- an entry as it is read from the code's table, in 16 bits
+pub entry-read : (i j : ℕ) → i < 12 → j < 69 → toZ w16 (ofZ w16 (getD (getD lines j []) i (pos 0))) ≡ entry fibre i j
+entry-read i j hi hj = ap (λ (z : ℤ). toZ w16 (ofZ w16 z)) (entry-as i j (pos 0) hi hj) ∙ toZ-ofZ (entry-fits i j)

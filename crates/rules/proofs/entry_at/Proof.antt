@@ -1,13 +1,8 @@
 -- `rules::entry_at` meets its contract: the constant of the code is the table of the definitions.
 use borrow.Author.Needs.{needs}
-use mathlib.Core.Path.{_≡_, ap, _∙_}
 use native.Mathlib.Omega.{arith}
-use lib.IntN.{ℤ, pos}
-use mir.Facts.{toZ-ofZ}
-use mir.Syntax.{w16}
-use mir.Val.{toZ, ofZ}
 use Rattle.rules.specs.Table.{lines}
-use Rattle.rules.proofs.TableLaws.{entry-as, entry-fits}
+use Rattle.rules.proofs.TableLaws.{entry-read}
 use Rattle.rules.proofs.entry_at.Statement.{statement}
 use Rattle.rules.proofs.entry_at.Tie as tie
 
@@ -25,10 +20,7 @@ index-2-result c = search needs
 
 returns : tie.Need-returns
 unfolding lines
-returns c =
-    let i = c .before .args .i in
-    let j = c .before .args .j in
-    ap (λ (z : ℤ). toZ w16 (ofZ w16 z)) (entry-as i j (pos 0) (omega arith) (omega arith)) ∙ toZ-ofZ (entry-fits i j)
+returns c = entry-read (c .before .args .i) (c .before .args .j) (omega arith) (omega arith)
 
 pub entry-at-spec : {M : Type 1} → statement M
 entry-at-spec = tie.close (tie.spec mul-result mul-result-2 index-1-result index-2-result returns)

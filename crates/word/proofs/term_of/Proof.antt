@@ -1,0 +1,58 @@
+-- `word::term_of` meets its contract.
+use borrow.Author.Needs.{needs}
+use mathlib.Core.Path.{_≡_, sym, ap, _∙_}
+use Prim.Native.Nat.{_+_, _*_, _/_, _%_}
+use native.Mathlib.Omega.{arith}
+use mir.Facts.{toZ-ofZ}
+use Rattle.rules.specs.Bits.{bit}
+use Rattle.rules.specs.Matrix.{entry}
+use Rattle.rules.specs.Table.{fibre}
+use Rattle.rules.specs.Terms.{term, turn}
+use Rattle.rules.proofs.TableLaws.{entry-range}
+use Rattle.laws.proofs.Columns.{turn-none, turn-some}
+use Rattle.word.proofs.term_of.Statement.{statement}
+use Rattle.word.proofs.term_of.Tie as tie
+
+turn-of-requires : tie.Need-turn-of-requires
+turn-of-requires c κs = search needs
+
+returns : tie.Need-returns
+unfolding term
+returns c =
+    let a = c .before .before .before .args in
+    let e = entry fibre (a .row / 256) (a .j) in
+    sym (turn-none e (λ t. bit (a .word .now) (256 * a .j + t)) (a .row % 256) (entry-range (a .row / 256) (a .j))
+    (omega (arith, c .before .turn-of .ensures ∙ ap turn (toZ-ofZ (c .before .before .before .fits .a) ∙ c .before .before .before .pre .3))))
+
+mul-bit-at : tie.Need-mul-bit-at
+mul-bit-at c = search needs
+
+add-bit-at : tie.Need-add-bit-at
+add-bit-at c = search needs
+
+add-bit-at-2 : tie.Need-add-bit-at-2
+add-bit-at-2 c = search needs
+
+bit-at-requires : tie.Need-bit-at-requires
+bit-at-requires c κs = search needs
+
+returns-2 : tie.Need-returns-2
+unfolding term
+returns-2 c =
+    let a = c .before .before .before .before .args in
+    let e = entry fibre (a .row / 256) (a .j) in
+    let t : c .before .before .turn-of .result ≡ turn e =
+    c .before .before .turn-of .ensures ∙ ap turn (toZ-ofZ (c .before .before .before .before .fits .a) ∙ c .before .before .before .before .pre .3) in
+    c .bit-at .ensures ∙ rw t (sym (turn-some e (λ t. bit (a .word .now) (256 * a .j + t)) (a .row % 256) (omega arith)))
+
+pub term-of-spec : {M : Type 1} → statement M
+term-of-spec =
+    tie.close
+    (tie.spec
+    turn-of-requires
+    returns
+    mul-bit-at
+    add-bit-at
+    add-bit-at-2
+    bit-at-requires
+    returns-2)

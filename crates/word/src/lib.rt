@@ -1,0 +1,76 @@
+// Full words: check one, from any decoder, and complete one's parity in place.
+ghost use mathlib.Core.Path.{_≡_};
+ghost use Prim.Native.Nat.{_/_, _≤_, _<_};
+ghost use lib.ListN.{length};
+ghost use Rattle.rules.specs.Bits.{bit};
+ghost use Rattle.rules.specs.Matrix.{entry};
+ghost use Rattle.rules.specs.Table.{fibre};
+ghost use Rattle.rules.specs.Terms.{term};
+ghost use Rattle.rules.specs.Verdicts.{WordVerdict};
+ghost use Rattle.rules.specs.Promises.{WordChecked};
+ghost use Rattle.word.specs.Scan.{Scanned};
+use rules::Cause;
+use rules::Judgement;
+use rules::Verdict;
+
+// What block column j, whose entry is a, adds to a check row of the word.
+fn term_of(word: &[u8], row: usize, j: usize, a: i16) -> u8
+    requires { ⌜ (length (now word) ≡ 2208) × (row < 3072) × (j < 69) × (a ≡ entry fibre (row / 256) j) ⌝ }
+    ensures { λ r. ⌜ r ≡ term fibre row (bit (now (word .entry))) j ⌝ }
+{
+    let turn = rules::turn_of(a);
+    if 256 <= turn {
+        return 0;
+    }
+    bits::bit_at(word, 256 * j + (row % 256 + turn) % 256)
+}
+
+// The lowest failing row, or 3,072 where every check holds. The scan stops at the first failed check.
+fn first_failing(word: &[u8]) -> usize
+    requires { ⌜ length (now word) ≡ 2208 ⌝ }
+    ensures { λ r. ⌜ Scanned (bit (now (word .entry))) r ⌝ }
+{
+    let table = rules::TABLE;
+    let mut row: usize = 0;
+    'rows: loop {
+        if row == 3072 {
+            break 'rows row;
+        }
+        let i = row / 256;
+        let mut sum: u8 = 0;
+        for j in 0..69 {
+            sum = (sum + term_of(word, row, j, table[j][i])) % 2;
+        }
+        if sum == 1 {
+            break 'rows row;
+        }
+        row += 1;
+    }
+}
+
+// The verdict on a full word: shortened places come first, then the checks.
+fn judge(count: usize, word: &[u8]) -> Verdict
+    requires { ⌜ (count ≤ 14392) × (length (now word) ≡ 2208) ⌝ }
+    ensures { λ r. ⌜ WordVerdict count (bit (now (word .entry))) r ⌝ }
+{
+    let place = bits::first_set(word, count, 14592);
+    if place < 14592 {
+        return Verdict::Rejected(Cause::Shortened(place));
+    }
+    let row = first_failing(word);
+    if row < 3072 {
+        return Verdict::Rejected(Cause::Check(row));
+    }
+    Verdict::Accepted
+}
+
+// Checks a full word with so many payload bits.
+pub fn check(count: usize, word: &[u8]) -> Judgement
+    ensures { λ r. ⌜ WordChecked count (now (word .entry)) r ⌝ }
+{
+    let refusal = refusals::check_word(count, word);
+    if refusal != 0 {
+        return Judgement::Refused(refusal);
+    }
+    Judgement::Judged(judge(count, word))
+}
