@@ -5,13 +5,14 @@
 --   good B Z b v      a value and a count, v: the count is small, and the digits are those of the turn 0 (b holds) or of none
 --
 --   good-turned       of good numbers: a block turned so is the block itself, or nothing
-use mathlib.Core.Path.{_≡_, refl, sym, ap, ap₂, _∙_, subst}
+use mathlib.Core.Path.{_≡_, refl, sym, ap, ap₂, _∙_}
 use mathlib.Core.Bool.{Bool, true, false, not, cond}
 use mathlib.Core.List.{List, [], _∷_}
 use Prim.Native.Nat.{ℕ, zero, suc, _+_, _*_, _/_, _%_, _^_, _≤_, _<_, zero-le}
-use native.Mathlib.Nat.{zero-mul, suc-mul, add-mul, zero-add, add-zero, add-assoc, add-comm, pow-zero, pow-suc, not-suc-le-zero, le-of-suc-le-suc}
-use native.Mathlib.Nat.{add-mod, add-mod-mod, mod-lt, mod-eq-of-lt, div-eq-of-lt, div-add-mod', mul-add-mod-self-left, add-mul-mod-self-right}
-use native.Mathlib.Nat.{add-mul-div-right, lt-of-le-of-lt, lt-of-mul-lt-mul-right, pow-le-pow-right, mul-le-mul-right, mul-comm, one-mul}
+use native.Mathlib.Nat.{zero-add, add-zero, zero-mul, one-mul, suc-mul, mul-comm, add-mul, pow-zero, pow-suc, pow-le-pow-right}
+use native.Mathlib.Nat.{add-mod, add-mod-mod, mod-lt, mod-eq-of-lt, div-eq-of-lt, div-add-mod', add-mul-div-right}
+use native.Mathlib.Nat.{mul-add-mod-self-left, add-mul-mod-self-right, mul-le-mul-right, lt-of-mul-lt-mul-right, lt-of-le-of-lt}
+use native.Mathlib.Nat.{not-suc-le-zero, le-of-suc-le-suc}
 use native.Mathlib.Omega.{arith}
 use lib.Dec.{T, eqb, ltb, eqb→eq, ltb→lt}
 use lib.ListN.{length}
@@ -108,10 +109,8 @@ module _ (B : ℕ) where
       let rest = digits B n false (value B ts / B) in
       let odd = eqb→eq (unturned ts % 2) (cond b 1 0) (rw (lowest ts h) at (both-left first rest t)) in
       let even : T (digits B n false (value B (lower ts))) = rw (others ts h) at (both-right first rest t) in
-      sumOf-lower f ts
-      ∙ ap₂ _⊕_ (times-parity (unturned ts) (f 0) b odd)
-      (sumOf-digits n false (lower ts) (λ t. f (suc t)) (lt-of-le-of-lt (lower-le ts) h) (lower-below n ts l) even)
-      ∙ xor-none (cond b (f 0) false)
+      let none = sumOf-digits n false (lower ts) (λ t. f (suc t)) (lt-of-le-of-lt (lower-le ts) h) (lower-below n ts l) even in
+      sumOf-lower f ts ∙ ap₂ _⊕_ (times-parity (unturned ts) (f 0) b odd) none ∙ xor-none (cond b (f 0) false)
 
 -- turns modulo Z: the block turned so, the count, and the value modulo B ^ Z - 1 stay
 abbrev reduced : ℕ → List ℕ → List ℕ
@@ -173,10 +172,11 @@ module _ (B Z M : ℕ) (base : suc M ≡ B ^ Z) (some : 0 < Z) where
   pub good-turned : (b : Bool) (ts : List ℕ) → T (good B Z b (value B ts % M, length ts)) → (f : ℕ → Bool) (r : ℕ) → r < Z
       → turned Z ts f r ≡ cond b (f r) false
   good-turned b ts t f r h =
-      let short : suc (length ts) < B = ltb→lt (suc (length ts)) B (both-left (ltb (suc (length ts)) B) (digits B Z b (value B ts % M)) t) in
-      let whole : value B ts % M ≡ value B (reduced Z ts) = sym (value-reduced ts) ∙ mod-eq-of-lt (value-small ts short) in
-      let read : T (digits B Z b (value B (reduced Z ts))) =
-      rw whole at (both-right (ltb (suc (length ts)) B) (digits B Z b (value B ts % M)) t) in
+      let few = ltb (suc (length ts)) B in
+      let read = digits B Z b (value B ts % M) in
+      let short = ltb→lt (suc (length ts)) B (both-left few read t) in
+      let whole = sym (value-reduced ts) ∙ mod-eq-of-lt (value-small ts short) in
+      let shown : T (digits B Z b (value B (reduced Z ts))) = rw whole at (both-right few read t) in
       sym (turned-reduced Z ts f r)
-      ∙ sumOf-digits B Z b (reduced Z ts) (λ t. f ((r + t) % Z)) (omega (arith, length-reduced Z ts)) (reduced-below Z some ts) read
+      ∙ sumOf-digits B Z b (reduced Z ts) (λ t. f ((r + t) % Z)) (omega (arith, length-reduced Z ts)) (reduced-below Z some ts) shown
       ∙ ap (λ (n : ℕ). cond b (f n) false) (ap (λ (n : ℕ). n % Z) (add-zero r) ∙ mod-eq-of-lt h)

@@ -4,4 +4,8 @@ pub mod Registers
 pub mod Turns
 pub mod Numbers
 pub mod Digits
+pub mod Computed
+pub mod Blocks
 pub mod Solve
+pub mod Places
+pub mod Parity

@@ -3,17 +3,20 @@
 --   Blocks            blocks of bits: bit r of block k
 --   only m x          the first m blocks of x, and nothing after them
 --   Near Z n x y      x and y are the same in the first Z bits of the first n blocks
---   add d s a         a step: register d becomes register d plus register s turned by a
+--   Step, add d s a   a step: register d becomes register d plus register s turned by a
 --   step Z c x        the registers x after the step c
 --   follow Z cs x     the registers x after the steps cs
---   group d s ts      the steps that add register s to register d, one for each turn in ts
+--   Group, group d s ts    a group of steps: they add register s to register d, one for each turn in ts
+--   steps d s ts      the steps of a group
 --   flat gs           the steps of the groups gs, in order
 --   sound n g         the group g stays within n registers, and adds none to itself
 --
+--   sound-apart       the two registers of a sound group are not the same
 --   follow-more       the registers after one step more
---   follow-append     the registers after steps and more steps
---   follow-near       what sound groups make of n registers is known from these registers
-use mathlib.Core.Path.{_≡_, refl, ap, ap₂, _∙_}
+--   follow-append     the registers after steps and then more steps
+--   step-near         what a step makes of n registers is known from these registers
+--   follow-near       so is what sound groups make
+use mathlib.Core.Path.{_≡_, refl, ap₂}
 use mathlib.Core.Bool.{Bool, true, false, not, cond}
 use mathlib.Core.List.{List, [], _∷_, _++_}
 use Prim.Native.Nat.{ℕ, zero, suc, _+_, _%_, _<_}
@@ -58,8 +61,8 @@ sound n (group d s ts) = both (both (ltb d n) (ltb s n)) (not (eqb s d))
 
 sound-within : (n d s : ℕ) (ts : List ℕ) → T (sound n (group d s ts)) → (d < n) × (s < n)
 sound-within n d s ts t =
-    let near = both-left (both (ltb d n) (ltb s n)) (not (eqb s d)) t in
-    (ltb→lt d n (both-left (ltb d n) (ltb s n) near), ltb→lt s n (both-right (ltb d n) (ltb s n) near))
+    let within = both-left (both (ltb d n) (ltb s n)) (not (eqb s d)) t in
+    (ltb→lt d n (both-left (ltb d n) (ltb s n) within), ltb→lt s n (both-right (ltb d n) (ltb s n) within))
 
 pub sound-apart : (n d s : ℕ) (ts : List ℕ) → T (sound n (group d s ts)) → eqb s d ≡ false
 sound-apart n d s ts t = unset (eqb s d) (both-right (both (ltb d n) (ltb s n)) (not (eqb s d)) t)
@@ -79,21 +82,23 @@ follow-append Z [] ds x = refl
 follow-append Z (c ∷ cs) ds x = follow-append Z cs ds (step Z c x)
 
 module _ (Z n : ℕ) (some : 0 < Z) where
-  step-near : (d s a : ℕ) → d < n → s < n → (x y : Blocks) → Near Z n x y → Near Z n (step Z (add d s a) x) (step Z (add d s a) y)
-  step-near d s a hd hs x y h k r hk hr =
-      ap₂ (cond (eqb k d)) (ap₂ _⊕_ (h d r hd hr) (h s ((r + a) % Z) hs (mod-lt (r + a) some))) (h k r hk hr)
+  pub step-near : (d s a : ℕ) → d < n → s < n → (x y : Blocks) → Near Z n x y
+      → Near Z n (step Z (add d s a) x) (step Z (add d s a) y)
+  step-near d s a hd hs x y near k r hk hr =
+      ap₂ (cond (eqb k d)) (ap₂ _⊕_ (near d r hd hr) (near s ((r + a) % Z) hs (mod-lt (r + a) some))) (near k r hk hr)
 
   steps-near : (d s : ℕ) (ts : List ℕ) → d < n → s < n → (x y : Blocks) → Near Z n x y
       → Near Z n (follow Z (steps d s ts) x) (follow Z (steps d s ts) y)
-  steps-near d s [] hd hs x y h = h
-  steps-near d s (a ∷ ts) hd hs x y h =
-      steps-near d s ts hd hs (step Z (add d s a) x) (step Z (add d s a) y) (step-near d s a hd hs x y h)
+  steps-near d s [] hd hs x y near = near
+  steps-near d s (a ∷ ts) hd hs x y near =
+      steps-near d s ts hd hs (step Z (add d s a) x) (step Z (add d s a) y) (step-near d s a hd hs x y near)
 
   pub follow-near : (gs : List Group) → T (all (sound n) gs) → (x y : Blocks) → Near Z n x y
       → Near Z n (follow Z (flat gs) x) (follow Z (flat gs) y)
-  follow-near [] t x y h = h
-  follow-near (group d s ts ∷ gs) t x y h =
-      let here = sound-within n d s ts (both-left (sound n (group d s ts)) (all (sound n) gs) t) in
+  follow-near [] t x y near = near
+  follow-near (group d s ts ∷ gs) t x y near =
+      let within = sound-within n d s ts (both-left (sound n (group d s ts)) (all (sound n) gs) t) in
       let rest = both-right (sound n (group d s ts)) (all (sound n) gs) t in
       rw (follow-append Z (steps d s ts) (flat gs) x, follow-append Z (steps d s ts) (flat gs) y)
-      (follow-near gs rest (follow Z (steps d s ts) x) (follow Z (steps d s ts) y) (steps-near d s ts (here .0) (here .1) x y h))
+      (follow-near gs rest (follow Z (steps d s ts) x) (follow Z (steps d s ts) y)
+      (steps-near d s ts (within .0) (within .1) x y near))

@@ -1,15 +1,17 @@
 -- Sums of bits mod 2.
 --
---   a ⊕ b          the sum of two bits mod 2
---   sums n f       f 0 ⊕ f 1 ⊕ .. ⊕ f (n - 1)
---   sumOf f ts     the sum of f over the list ts
+--   a ⊕ b           the sum of two bits
+--   sums n f        f 0 ⊕ f 1 ⊕ .. ⊕ f (n - 1)
+--   sumOf f ts      the sum of f over the list ts
 --
---   xor-X          laws of ⊕: none is false added, assoc and swap regroup, twice adds a bit twice, four regroups two sums
---   sums-same      the sums of what is the same below n are the same
---   sums-plus      the sum of sums
---   sums-one       a sum that has but one term
---   sumOf-append   the sum over a list and another
---   sumOf-sums     sums of sums, added up the other way
+--   xor-none, xor-twice    false added; a bit added twice
+--   xor-assoc, xor-swap    sums regrouped
+--   sums-same       what is the same below n has the same sums
+--   sums-none       a sum of nothing
+--   sums-plus       the sum of two sums
+--   sums-one        a sum that has one term only
+--   sumOf-append    the sum over a list and another
+--   sumOf-sums      a sum of sums, added up the other way
 use mathlib.Core.Path.{_≡_, refl, sym, ap, ap₂, _∙_}
 use mathlib.Core.Bool.{Bool, true, false, not, cond, Bool·not-not}
 use mathlib.Core.List.{List, [], _∷_, _++_}
@@ -53,13 +55,13 @@ pub sums-same : (n : ℕ) (f g : ℕ → Bool) → ((j : ℕ) → j < n → f j 
 sums-same zero f g h = refl
 sums-same (suc n) f g h = ap₂ _⊕_ (sums-same n f g (λ j l. h j (le-step l))) (h n (le-refl (suc n)))
 
-pub sums-plus : (n : ℕ) (f g : ℕ → Bool) → sums n (λ j. f j ⊕ g j) ≡ sums n f ⊕ sums n g
-sums-plus zero f g = refl
-sums-plus (suc n) f g = ap (λ (x : Bool). x ⊕ (f n ⊕ g n)) (sums-plus n f g) ∙ xor-four (sums n f) (sums n g) (f n) (g n)
-
 pub sums-none : (n : ℕ) → sums n (λ j. false) ≡ false
 sums-none zero = refl
 sums-none (suc n) = xor-none (sums n (λ j. false)) ∙ sums-none n
+
+pub sums-plus : (n : ℕ) (f g : ℕ → Bool) → sums n (λ j. f j ⊕ g j) ≡ sums n f ⊕ sums n g
+sums-plus zero f g = refl
+sums-plus (suc n) f g = ap (λ (x : Bool). x ⊕ (f n ⊕ g n)) (sums-plus n f g) ∙ xor-four (sums n f) (sums n g) (f n) (g n)
 
 sums-past : (n k : ℕ) (f : ℕ → Bool) → n ≤ k → sums n (λ j. cond (eqb k j) (f j) false) ≡ false
 sums-past n k f h =
@@ -80,8 +82,10 @@ sumOf f (t ∷ ts) = f t ⊕ sumOf f ts
 
 pub sumOf-append : (f : ℕ → Bool) (ts us : List ℕ) → sumOf f (ts ++ us) ≡ sumOf f ts ⊕ sumOf f us
 sumOf-append f [] us = refl
-sumOf-append f (t ∷ ts) us = ap (λ (x : Bool). f t ⊕ x) (sumOf-append f ts us) ∙ sym (xor-assoc (f t) (sumOf f ts) (sumOf f us))
+sumOf-append f (t ∷ ts) us =
+    ap (λ (x : Bool). f t ⊕ x) (sumOf-append f ts us) ∙ sym (xor-assoc (f t) (sumOf f ts) (sumOf f us))
 
 pub sumOf-sums : (n : ℕ) (f : ℕ → ℕ → Bool) (ts : List ℕ) → sumOf (λ t. sums n (f t)) ts ≡ sums n (λ j. sumOf (λ t. f t j) ts)
 sumOf-sums n f [] = sym (sums-none n)
-sumOf-sums n f (t ∷ ts) = ap (λ (x : Bool). sums n (f t) ⊕ x) (sumOf-sums n f ts) ∙ sym (sums-plus n (f t) (λ j. sumOf (λ u. f u j) ts))
+sumOf-sums n f (t ∷ ts) =
+    ap (λ (x : Bool). sums n (f t) ⊕ x) (sumOf-sums n f ts) ∙ sym (sums-plus n (f t) (λ j. sumOf (λ u. f u j) ts))
