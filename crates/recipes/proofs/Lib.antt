@@ -1,0 +1,11 @@
+pub mod Sums
+pub mod Recipe
+pub mod Registers
+pub mod Turns
+pub mod Numbers
+pub mod Digits
+pub mod Computed
+pub mod Blocks
+pub mod Solve
+pub mod Places
+pub mod Parity
