@@ -1,0 +1,30 @@
+-- `word::judge` meets its contract.
+use borrow.Author.Needs.{needs}
+use Rattle.word.proofs.Found.{shortened-lowest, shortened-nowhere, fails-lowest, fails-nowhere}
+use Rattle.word.proofs.judge.Statement.{statement}
+use Rattle.word.proofs.judge.Tie as tie
+
+first-set-requires : tie.Need-first-set-requires
+first-set-requires c κs = search needs
+
+returns : tie.Need-returns
+returns c = shortened-lowest (c .before .first-set .ensures) (c .if1 .taken)
+
+first-failing-requires : tie.Need-first-failing-requires
+first-failing-requires c κs = search needs
+
+returns-2 : tie.Need-returns-2
+returns-2 c = (
+  shortened-nowhere (c .before .before .before .first-set .ensures) (c .before .before .if1 .left),
+  fails-lowest (c .before .first-failing .ensures) (c .if2 .taken),
+)
+
+returns-3 : tie.Need-returns-3
+returns-3 c = (
+  shortened-nowhere (c .before .before .before .first-set .ensures) (c .before .before .if1 .left),
+  fails-nowhere (c .before .first-failing .ensures) (c .if2 .left),
+)
+
+pub judge-spec : {M : Type 1} → statement M
+judge-spec =
+    tie.close (tie.spec first-set-requires returns first-failing-requires returns-2 returns-3)
