@@ -2,6 +2,7 @@
 --
 --   digitBytes d    the delimiter's two bytes, the low one first
 --   digits-right    their first ten bits are the delimiter's
+--   tail-low, tail-high   a bit of the tail: of the parity, and of the delimiter
 --   tail-added      the sent parity and then the delimiter's bits, added one after the other, are the tail
 use mathlib.Core.Path.{_≡_, refl, sym, ap, _∙_}
 use mathlib.Core.Bool.{Bool}
@@ -28,10 +29,10 @@ digits-right d t hd ht =
     eqb→eq _ _ (every-at 10 (rightAt d) (every-at 1024 (λ d. every 10 (rightAt d)) tt d (omega arith)) t ht)
 
 module _ (p : List ℕ) (d : ℕ) where
-  tail-low : (t : ℕ) → t < 2560 → tail p d t ≡ bit p t
+  pub tail-low : (t : ℕ) → t < 2560 → tail p d t ≡ bit p t
   tail-low t h = run-low 2560 (bit p) (run 10 (digit d) zeros) t h
 
-  tail-high : (t : ℕ) → t < 10 → tail p d (2560 + t) ≡ digit d t
+  pub tail-high : (t : ℕ) → t < 10 → tail p d (2560 + t) ≡ digit d t
   tail-high t h =
       let e : 2560 + t - 2560 ≡ t = omega arith in
       run-high 2560 (bit p) (run 10 (digit d) zeros) (2560 + t) (omega arith) ∙ rw e (run-low 10 (digit d) zeros t h)

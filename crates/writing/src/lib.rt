@@ -13,7 +13,9 @@ fn add_tail(line: &mut [u8], at: usize, parity: &[u8], delimiter: usize)
     ensures { λ r. ⌜ Adds (now (line .entry)) (now (line .exit)) (placed at 2570 (tail (now (parity .entry)) delimiter)) ⌝ }
 {
     bits::add_run(line, at, parity, 0, 2560);
-    let digits = [(delimiter % 256) as u8, (delimiter / 256 % 256) as u8];
+    let low = (delimiter % 256) as u8;
+    let high = (delimiter / 256 % 256) as u8;
+    let digits = [low, high];
     bits::add_run(line, at + 2560, &digits, 0, 10);
 }
 

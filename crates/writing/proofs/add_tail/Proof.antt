@@ -7,11 +7,11 @@ use Rattle.writing.proofs.add_tail.Tie as tie
 add-run-requires : tie.Need-add-run-requires
 add-run-requires c κs = search needs
 
-cast-t10 : tie.Need-cast-t10
-cast-t10 c = search needs
+cast-low : tie.Need-cast-low
+cast-low c = search needs
 
-cast-t13 : tie.Need-cast-t13
-cast-t13 c = search needs
+cast-high : tie.Need-cast-high
+cast-high c = search needs
 
 add-add-run : tie.Need-add-add-run
 add-add-run c = search needs
@@ -37,8 +37,8 @@ add-tail-spec =
     tie.close
     (tie.spec
     add-run-requires
-    cast-t10
-    cast-t13
+    cast-low
+    cast-high
     add-add-run
     slice-aggregate-add-run
     add-run-requires-2
