@@ -4,3 +4,4 @@ pub mod Columns
 pub mod Running
 pub mod Told
 pub mod Judged
+pub mod Passed

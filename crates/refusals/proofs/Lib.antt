@@ -1,3 +1,2 @@
 pub mod Unused
 pub mod Shortened
-pub mod Passed

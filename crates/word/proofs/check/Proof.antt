@@ -2,7 +2,7 @@
 use borrow.Author.Needs.{needs}
 use mathlib.Core.Path.{subst}
 use Rattle.rules.specs.Refusals.{WordTold}
-use Rattle.refusals.proofs.Passed.{word-passed}
+use Rattle.laws.proofs.Passed.{word-passed}
 use Rattle.word.proofs.check.Statement.{statement}
 use Rattle.word.proofs.check.Tie as tie
 

@@ -1,0 +1,4 @@
+pub mod Orders
+pub mod Same
+pub mod FullWords
+pub mod Streams
