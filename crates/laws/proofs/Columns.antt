@@ -5,6 +5,7 @@
 --   term-same      so does a term, and
 --   term-below     a term of a word of bits is a bit
 --   turn-none, turn-some   what a block of the fibre code takes, by its turn
+--   turn-told      the turn of an entry that is passed on as 16 bits is its turn
 --   check-column   a check of block j of a word alone is that column's term
 use mathlib.Core.Path.{_≡_, refl, sym, ap, _∙_}
 use Prim.Native.Nat.{ℕ, _+_, _-_, _*_, _/_, _%_, _≤_, _<_}
@@ -13,6 +14,9 @@ use native.Mathlib.Decide.{decLt}
 use native.Mathlib.Omega.{arith}
 use lib.Dec.{T, ltb→lt, lit<}
 use lib.IntN.{ℤ, pos, negsuc}
+use mir.Facts.{toZ-ofZ}
+use mir.Syntax.{w16}
+use mir.Val.{SFits, toZ, ofZ}
 use Rattle.rules.specs.Bits.{zeros, placed}
 use Rattle.rules.specs.Matrix.{Code, entry, total, check}
 use Rattle.rules.specs.Terms.{spot, term, turn}
@@ -41,6 +45,9 @@ turn-none (negsuc n) f r t h = refl
 pub turn-some : (a : ℤ) (f : ℕ → ℕ) (r : ℕ) → turn a < 256 → spot 256 a f r ≡ f ((r + turn a) % 256)
 turn-some (pos a) f r h = refl
 turn-some (negsuc n) f r h = absurd (omega arith)
+
+pub turn-told : {a e : ℤ} {t : ℕ} → SFits w16 a → a ≡ e → t ≡ turn (toZ w16 (ofZ w16 a)) → t ≡ turn e
+turn-told fits same told = told ∙ ap turn (toZ-ofZ fits ∙ same)
 
 module _ (c : Code) (h : 0 < c .size) (n : ℕ) where
   pub term-same : (x y : ℕ → ℕ) (j : ℕ) → ((t : ℕ) → t < c .size → x (c .size * j + t) ≡ y (c .size * j + t)) → term c n x j ≡ term c n y j

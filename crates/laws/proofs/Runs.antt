@@ -12,12 +12,15 @@
 --   placed-below, placed-above   the places before and after b bits of x placed at h are 0
 --   placed-in                    the places between are those of x
 --   placed-each                  what holds in all three cases, holds of the placed run
+--   placed-bits                  placed bits are bits
 --   placed-none                  no bits placed
 --   placed-same                  equal bits placed
+--   placed-whole                 b bits of y from place h on, at their places, are all of y where it is 0 elsewhere
 use mathlib.Core.Path.{_≡_, refl, sym, ap, _∙_}
 use Prim.Native.Nat.{ℕ, _+_, _-_, _≤_, _<_}
 use native.Mathlib.Decide.{decLt}
 use native.Mathlib.Omega.{arith}
+use lib.Dec.{lit<}
 use borrow.Author.Tests.{lt-ltb, le-ltb}
 use Rattle.rules.specs.Bits.{zeros, run, placed}
 
@@ -73,6 +76,10 @@ module _ (h b : ℕ) (x : ℕ → ℕ) (n : ℕ) where
       run-each h zeros (run b x zeros) n P below
       (λ l. run-each b x zeros (n - h) P (λ k. within l (omega arith)) (λ k. above (omega arith)))
 
+pub placed-bits : (h b : ℕ) (x : ℕ → ℕ) → ((t : ℕ) → x t < 2) → (n : ℕ) → placed h b x n < 2
+placed-bits h b x bits =
+    run-below h zeros (run b x zeros) (λ n l. lit< tt) (run-below b x zeros (λ n l. bits n) (λ n. lit< tt))
+
 pub placed-none : (h : ℕ) (x : ℕ → ℕ) (n : ℕ) → placed h 0 x n ≡ 0
 placed-none h x n = placed-each h 0 x n (λ v. v ≡ 0) (λ l. refl) (λ l k. absurd (omega arith)) (λ l. refl)
 
@@ -94,6 +101,10 @@ placed-join h b m x n =
 pub placed-same : (h b : ℕ) (x y : ℕ → ℕ) → ((t : ℕ) → t < b → x t ≡ y t) → (n : ℕ) → placed h b x n ≡ placed h b y n
 placed-same h b x y e =
     run-same h zeros (run b x zeros) zeros (run b y zeros) (λ k l. refl) (run-same b x zeros y zeros e (λ k. refl))
+
+pub placed-whole : (h b : ℕ) (y : ℕ → ℕ) (n : ℕ) → (n < h → y n ≡ 0) → (h + b ≤ n → y n ≡ 0) → placed h b (λ t. y (h + t)) n ≡ y n
+placed-whole h b y n below above =
+    placed-each h b (λ t. y (h + t)) n (λ v. v ≡ y n) (λ l. sym (below l)) (λ l k. ap y (omega arith)) (λ l. sym (above l))
 
 -- a single bit that stands for the first of x
 single : (h : ℕ) (x : ℕ → ℕ) (v : ℕ) → x 0 ≡ v → (n : ℕ) → placed h 1 x n ≡ placed h 1 (λ t. v) n

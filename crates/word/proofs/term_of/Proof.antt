@@ -1,15 +1,14 @@
 -- `word::term_of` meets its contract.
 use borrow.Author.Needs.{needs}
-use mathlib.Core.Path.{_≡_, sym, ap, _∙_}
+use mathlib.Core.Path.{sym, _∙_}
 use Prim.Native.Nat.{_+_, _*_, _/_, _%_}
 use native.Mathlib.Omega.{arith}
-use mir.Facts.{toZ-ofZ}
 use Rattle.rules.specs.Bits.{bit}
 use Rattle.rules.specs.Matrix.{entry}
 use Rattle.rules.specs.Table.{fibre}
-use Rattle.rules.specs.Terms.{term, turn}
+use Rattle.rules.specs.Terms.{term}
 use Rattle.rules.proofs.TableLaws.{entry-range}
-use Rattle.laws.proofs.Columns.{turn-none, turn-some}
+use Rattle.laws.proofs.Columns.{turn-none, turn-some, turn-told}
 use Rattle.word.proofs.term_of.Statement.{statement}
 use Rattle.word.proofs.term_of.Tie as tie
 
@@ -19,10 +18,11 @@ turn-of-requires c κs = search needs
 returns : tie.Need-returns
 unfolding term
 returns c =
-    let a = c .before .before .before .args in
+    let start = c .before .before .before in
+    let a = start .args in
     let e = entry fibre (a .row / 256) (a .j) in
-    sym (turn-none e (λ t. bit (a .word .now) (256 * a .j + t)) (a .row % 256) (entry-range (a .row / 256) (a .j))
-    (omega (arith, c .before .turn-of .ensures ∙ ap turn (toZ-ofZ (c .before .before .before .fits .a) ∙ c .before .before .before .pre .3))))
+    let t = turn-told (start .fits .a) (start .pre .3) (c .before .turn-of .ensures) in
+    sym (turn-none e (λ t. bit (a .word .now) (256 * a .j + t)) (a .row % 256) (entry-range (a .row / 256) (a .j)) (omega arith))
 
 mul-bit-at : tie.Need-mul-bit-at
 mul-bit-at c = search needs
@@ -39,10 +39,10 @@ bit-at-requires c κs = search needs
 returns-2 : tie.Need-returns-2
 unfolding term
 returns-2 c =
-    let a = c .before .before .before .before .args in
+    let start = c .before .before .before .before in
+    let a = start .args in
     let e = entry fibre (a .row / 256) (a .j) in
-    let t : c .before .before .turn-of .result ≡ turn e =
-    c .before .before .turn-of .ensures ∙ ap turn (toZ-ofZ (c .before .before .before .before .fits .a) ∙ c .before .before .before .before .pre .3) in
+    let t = turn-told (start .fits .a) (start .pre .3) (c .before .before .turn-of .ensures) in
     c .bit-at .ensures ∙ rw t (sym (turn-some e (λ t. bit (a .word .now) (256 * a .j + t)) (a .row % 256) (omega arith)))
 
 pub term-of-spec : {M : Type 1} → statement M

@@ -1,0 +1,87 @@
+-- `running::add_entry` meets its contract: a zero block takes nothing, and any other is added, turned, to the part of its row.
+use borrow.Author.Needs.{needs}
+use Prim.Native.Nat.{_+_, _-_, _*_}
+use native.Mathlib.Omega.{arith}
+use Rattle.laws.proofs.Columns.{turn-told}
+use Rattle.bits.proofs.AddsLaws.{adds-none, adds-as, adds-mid}
+use Rattle.running.proofs.Blocks.{taken-none, taken-turned}
+use Rattle.running.proofs.add_entry.Statement.{statement}
+use Rattle.running.proofs.add_entry.Tie as tie
+
+turn-of-requires : tie.Need-turn-of-requires
+turn-of-requires c κs = search needs
+
+returns : tie.Need-returns
+returns c =
+    let start = c .before .before .before .before in
+    let a = start .args in
+    let t = turn-told (start .fits .a) (start .pre .4) (c .before .turn-of .ensures) in
+    adds-none _ _ (taken-none (a .word .now) (a .i) (a .j) (omega arith))
+
+mul-at : tie.Need-mul-at
+mul-at c = search needs
+
+mul-from : tie.Need-mul-from
+mul-from c = search needs
+
+add-add-turned : tie.Need-add-add-turned
+add-add-turned c = search needs
+
+sub-add-turned : tie.Need-sub-add-turned
+sub-add-turned c = search needs
+
+part-add-turned-start : tie.Need-part-add-turned-start
+part-add-turned-start c = search needs
+
+part-add-turned-end : tie.Need-part-add-turned-end
+part-add-turned-end c = search needs
+
+add-add-turned-2 : tie.Need-add-add-turned-2
+add-add-turned-2 c = search needs
+
+sub-add-turned-2 : tie.Need-sub-add-turned-2
+sub-add-turned-2 c = search needs
+
+part-add-turned-start-2 : tie.Need-part-add-turned-start-2
+part-add-turned-start-2 c = search needs
+
+part-add-turned-end-2 : tie.Need-part-add-turned-end-2
+part-add-turned-end-2 c = search needs
+
+add-turned-requires : tie.Need-add-turned-requires
+add-turned-requires c κs = search needs
+
+same-length : tie.Need-same-length
+same-length c = search needs
+
+returns-2 : tie.Need-returns-2
+returns-2 c =
+    let added = c .before .before .add-turned in
+    let told = c .before .before .before .before .before .before in
+    let start = told .before .before .before in
+    let a = start .args in
+    let t = turn-told (start .fits .a) (start .pre .4) (told .turn-of .ensures) in
+    let k = 32 * a .i + 32 - 32 * a .i in
+    let l = 32 * a .j + 32 - 32 * a .j in
+    adds-as (taken-turned (a .word .now) (a .i) (a .j) k l _ (omega arith) (omega arith) t (omega arith))
+    (adds-mid (a .checks .now) (added .last .0) (32 * a .i) k _ (omega arith) (added .ensures))
+
+pub add-entry-spec : {M : Type 1} → statement M
+add-entry-spec =
+    tie.close
+    (tie.spec
+    turn-of-requires
+    returns
+    mul-at
+    mul-from
+    add-add-turned
+    sub-add-turned
+    part-add-turned-start
+    part-add-turned-end
+    add-add-turned-2
+    sub-add-turned-2
+    part-add-turned-start-2
+    part-add-turned-end-2
+    add-turned-requires
+    same-length
+    returns-2)
