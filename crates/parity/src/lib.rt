@@ -316,7 +316,12 @@ fn follow(registers: &mut [u8])
 {
     let recipe = RECIPE;
     for k in 0..288 {
-        step(registers, recipe[k][0] as usize, recipe[k][1] as usize, recipe[k][2] as usize);
+        step(
+            registers,
+            recipe[k][0] as usize,
+            recipe[k][1] as usize,
+            recipe[k][2] as usize,
+        );
     }
 }
 
