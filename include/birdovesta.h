@@ -1,0 +1,130 @@
+/* Birdovesta for C: encode a payload into a line word,
+ * check a full word, check a line word.
+ *
+ * Link libhost.a (x86-64 Linux). Nothing is allocated,
+ * nothing is kept from one call to the next.
+ *
+ *
+ * Bits in bytes
+ *
+ * Places count from 0. Bit n is in byte n / 8, with
+ * weight 2 to the power n mod 8. A run of b bits takes
+ * b / 8 bytes, rounded up. The unused high bits of its
+ * last byte are 0.
+ *
+ * payload     K bits, K from 1 to 14,392
+ * full word   17,664 bits in 2,208 bytes: the payload,
+ *             zeros up to place 14,591 (the shortened
+ *             places), then 3,072 parity bits
+ * line word   K + 2,570 bits: the payload, parity bits
+ *             0 to 2,559, then the delimiter's 10 bits,
+ *             lowest first
+ *
+ *
+ * What the caller answers for
+ *
+ * The library can't test this:
+ * - Each pointer leads to at least as many bytes as the
+ *   count beside it says. It isn't NULL, even where the
+ *   count is 0.
+ * - The bytes to be written (line, in the encoder)
+ *   overlap no other bytes that the call is lent.
+ * - Nobody else writes to any of them during the call.
+ * All else is tested and refused by a number.
+ *
+ *
+ * The answer of each call
+ *
+ * 0               written, or accepted
+ * 1 to 65,535     refused, by this number:
+ *   1  bits is 0 or above 14,392
+ *   2  the bytes given are not exactly those needed
+ *   3  an unused high bit is 1
+ *   4  the delimiter is above 1,023
+ *   5  the output is shorter than needed
+ * else            not accepted, for a cause:
+ *   cause * 2^32 + count * 2^16 + place
+ *   1  shortened: a shortened place is 1;
+ *      the lowest such place
+ *   2  check: a check fails;
+ *      the lowest failing row, 0 to 3,071
+ *   3  parity: a sent parity bit isn't the encoder's;
+ *      the lowest such place, 0 to 2,559
+ *   4  delimiter: it isn't the one given;
+ *      its lowest differing bit, 0 to 9
+ *   count is 0.
+ *
+ * A refused call leaves every byte as it was. Where
+ * several numbers fit, the first in the call's order is
+ * given. The checks write nothing at all.
+ */
+#ifndef BIRDOVESTA_H
+#define BIRDOVESTA_H
+
+#include <stddef.h>
+#include <stdint.h>
+
+#ifdef __cplusplus
+extern "C" {
+#endif
+
+enum birdovesta_cause {
+    BIRDOVESTA_SHORTENED = 1,
+    BIRDOVESTA_CHECK = 2,
+    BIRDOVESTA_PARITY = 3,
+    BIRDOVESTA_DELIMITER = 4
+};
+
+/* Bytes of a full word, and of the line word of K bits. */
+#define BIRDOVESTA_WORD_BYTES 2208
+#define BIRDOVESTA_LINE_BYTES(K) (((K) + 2570 + 7) / 8)
+
+/* The parts of an answer above 65,535. */
+#define BIRDOVESTA_CAUSE(answer) ((answer) >> 32)
+#define BIRDOVESTA_COUNT(answer) ((answer) >> 16 & 65535)
+#define BIRDOVESTA_PLACE(answer) ((answer) & 65535)
+
+/* Encode.
+ * Writes the line word of the first `bits` bits of
+ * payload to the start of line. Later bytes of line are
+ * untouched.
+ * payload_bytes: bits / 8, rounded up.
+ * delimiter:     0 to 1,023.
+ * line_bytes:    at least BIRDOVESTA_LINE_BYTES(bits).
+ * Refusals, in order: 1, 2, 3, 4, 5.
+ */
+uint64_t birdovesta_encode(
+    size_t bits,
+    const uint8_t *payload, size_t payload_bytes,
+    size_t delimiter,
+    uint8_t *line, size_t line_bytes);
+
+/* Check a full word whose payload has `bits` bits.
+ * Accepted where each shortened place is 0 and all 3,072
+ * checks hold. Else the cause is shortened or, where no
+ * shortened place is 1, check.
+ * word_bytes: 2,208.
+ * Refusals, in order: 1, 2.
+ */
+uint64_t birdovesta_check_word(
+    size_t bits,
+    const uint8_t *word, size_t word_bytes);
+
+/* Check a line word whose payload has `bits` bits.
+ * Accepted where it is the one that the encoder writes
+ * for its payload and this delimiter. Else the cause is
+ * parity or, where all sent parity is right, delimiter.
+ * line_bytes: exactly BIRDOVESTA_LINE_BYTES(bits).
+ * delimiter:  0 to 1,023.
+ * Refusals, in order: 1, 2, 3, 4.
+ */
+uint64_t birdovesta_check_line(
+    size_t bits,
+    const uint8_t *line, size_t line_bytes,
+    size_t delimiter);
+
+#ifdef __cplusplus
+}
+#endif
+
+#endif

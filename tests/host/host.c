@@ -1,0 +1,342 @@
+/* The bench host in C, against include/birdovesta.h and the
+ * archive: the lessons of paper 01's sheet that go through
+ * its three calls, and that nothing else is touched.
+ *
+ * Every expected value is from paper 01. Each fact takes a
+ * call's answer, and every byte of the three buffers later,
+ * guard bytes on both sides included.
+ *
+ * Prints one fact a line, of at most 40 characters, and ends
+ * with `N right, M wrong`. Exit status 1 if any is wrong.
+ */
+#include "birdovesta.h"
+
+#include <stdio.h>
+#include <string.h>
+
+enum {
+    GUARD = 64,
+    MOST = 2304, /* the most bytes lent */
+    PAYLOAD_MOST = 14392,
+    PAYLOAD_PLACES = 14592,
+    SENT = 2560
+};
+
+/* A buffer is lent from byte GUARD on. */
+struct buffer {
+    uint8_t all[GUARD + MOST + GUARD];
+};
+
+/* What is lent, and what it must hold after the call. */
+static struct buffer payload, word, line;
+static struct buffer payload_later, word_later, line_later;
+
+static unsigned right, wrong;
+
+static uint8_t *lent(struct buffer *buffer)
+{
+    return buffer->all + GUARD;
+}
+
+/* Any bytes, no two buffers alike. */
+static void fill(struct buffer *buffer, unsigned start)
+{
+    for (size_t n = 0; n < sizeof buffer->all; n++)
+        buffer->all[n] = (uint8_t)(start + 37 * n + n / 256);
+}
+
+static void zeros(struct buffer *buffer, size_t bytes)
+{
+    memset(lent(buffer), 0, bytes);
+}
+
+static void flip(struct buffer *buffer, size_t place)
+{
+    lent(buffer)[place / 8] ^= (uint8_t)(1u << place % 8);
+}
+
+/* New contents. */
+static void begin(void)
+{
+    fill(&payload, 11);
+    fill(&word, 83);
+    fill(&line, 170);
+}
+
+/* The line word of K 1, payload byte 0, delimiter 1,023. */
+static void put_line_of_zero(struct buffer *buffer)
+{
+    zeros(buffer, 320);
+    lent(buffer)[320] = 0xFE;
+    lent(buffer)[321] = 0x07;
+}
+
+/* What is expected later is what is there now. */
+static void nothing_changes(void)
+{
+    payload_later = payload;
+    word_later = word;
+    line_later = line;
+}
+
+static int bytes_right(void)
+{
+    return memcmp(&payload, &payload_later, sizeof payload) == 0
+        && memcmp(&word, &word_later, sizeof word) == 0
+        && memcmp(&line, &line_later, sizeof line) == 0;
+}
+
+static void fact(const char *text, int holds)
+{
+    printf("%s: %s\n", holds ? "right" : "wrong", text);
+    if (holds)
+        right++;
+    else
+        wrong++;
+}
+
+/* One fact: the answer, and all bytes. */
+static void told(const char *text, uint64_t answer, uint64_t expected)
+{
+    int same = bytes_right();
+    fact(text, answer == expected && same);
+    if (answer != expected)
+        printf("  answer %llu,\n  not %llu\n",
+            (unsigned long long)answer, (unsigned long long)expected);
+    if (!same)
+        printf("  some byte is not as it must be\n");
+}
+
+static uint64_t verdict(uint64_t cause, uint64_t place)
+{
+    return (cause << 32) + place;
+}
+
+/* The three calls, on the three buffers. */
+
+static uint64_t encode(size_t bits, size_t bytes, size_t delimiter, size_t room)
+{
+    return birdovesta_encode(bits, lent(&payload), bytes, delimiter, lent(&line), room);
+}
+
+static uint64_t check_word(size_t bits, size_t bytes)
+{
+    return birdovesta_check_word(bits, lent(&word), bytes);
+}
+
+static uint64_t check_line(size_t bits, size_t bytes, size_t delimiter)
+{
+    return birdovesta_check_line(bits, lent(&line), bytes, delimiter);
+}
+
+/* Full words */
+
+/* A word of zeros, but for one place. */
+static void one_place(size_t place)
+{
+    begin();
+    zeros(&word, BIRDOVESTA_WORD_BYTES);
+    flip(&word, place);
+    nothing_changes();
+}
+
+static void full_word_lessons(void)
+{
+    begin();
+    zeros(&word, BIRDOVESTA_WORD_BYTES);
+    nothing_changes();
+    told("all 0, K 1: accepted", check_word(1, 2208), 0);
+
+    static const struct {
+        size_t place, bits;
+        uint64_t cause, at;
+        const char *text;
+    } lessons[] = {
+        { 0, 1, BIRDOVESTA_CHECK, 176, "bit 0, K 1: check 176" },
+        { 1, 1, BIRDOVESTA_SHORTENED, 1, "bit 1, K 1: shortened 1" },
+        { 14392, 14392, BIRDOVESTA_SHORTENED, 14392, "bit 14392: shortened 14392" },
+        { 14592, 1, BIRDOVESTA_CHECK, 551, "bit 14592, K 1: check 551" },
+        { 255, 256, BIRDOVESTA_CHECK, 175, "bit 255, K 256: check 175" },
+        { 256, 257, BIRDOVESTA_CHECK, 256, "bit 256, K 257: check 256" },
+        { 14391, 14392, BIRDOVESTA_CHECK, 311, "bit 14391: check 311" },
+    };
+    for (size_t n = 0; n < sizeof lessons / sizeof *lessons; n++) {
+        one_place(lessons[n].place);
+        told(lessons[n].text, check_word(lessons[n].bits, 2208), verdict(lessons[n].cause, lessons[n].at));
+    }
+
+    one_place(0);
+    uint64_t answer = check_word(1, 2208);
+    fact("its parts: check, 0, 176",
+        BIRDOVESTA_CAUSE(answer) == BIRDOVESTA_CHECK
+            && BIRDOVESTA_COUNT(answer) == 0
+            && BIRDOVESTA_PLACE(answer) == 176);
+
+    int all = 1;
+    for (size_t place = 1; place < PAYLOAD_PLACES; place++) {
+        one_place(place);
+        all &= check_word(1, 2208) == verdict(BIRDOVESTA_SHORTENED, place) && bytes_right();
+    }
+    fact("K 1: each shortened place named", all);
+
+    one_place(14591);
+    flip(&word, 14392);
+    nothing_changes();
+    told("of two the lower: shortened 14392", check_word(PAYLOAD_MOST, 2208), verdict(BIRDOVESTA_SHORTENED, 14392));
+
+    one_place(14392);
+    flip(&word, 0);
+    nothing_changes();
+    told("shortened goes before check", check_word(PAYLOAD_MOST, 2208), verdict(BIRDOVESTA_SHORTENED, 14392));
+
+    one_place(0);
+    told("word, K 0: refusal 1", check_word(0, 2208), 1);
+    told("word, K 14393: refusal 1", check_word(14393, 2208), 1);
+    told("word, K 0, 0 bytes: refusal 1", check_word(0, 0), 1);
+    told("word of 0 bytes: refusal 2", check_word(1, 0), 2);
+    told("word of 2207 bytes: refusal 2", check_word(1, 2207), 2);
+    told("word of 2209 bytes: refusal 2", check_word(1, 2209), 2);
+}
+
+/* The encoder */
+
+static void encoder_lessons(void)
+{
+    begin();
+    zeros(&payload, 1);
+    nothing_changes();
+    put_line_of_zero(&line_later);
+    told("K 1, byte 0: 320 of 00, FE 07", encode(1, 1, 1023, 322), 0);
+
+    begin();
+    zeros(&payload, 1);
+    nothing_changes();
+    put_line_of_zero(&line_later);
+    told("the same with room to spare", encode(1, 1, 1023, MOST), 0);
+
+    begin();
+    zeros(&payload, 1799);
+    nothing_changes();
+    zeros(&line_later, 2119);
+    lent(&line_later)[2119] = 0xFF;
+    lent(&line_later)[2120] = 0x03;
+    told("K 14392, zeros: 00, FF 03", encode(14392, 1799, 1023, 2121), 0);
+
+    begin();
+    nothing_changes();
+    told("K 0: refusal 1", encode(0, 0, 0, MOST), 1);
+    told("K 14393: refusal 1", encode(14393, 1800, 0, MOST), 1);
+    told("K 14392, room 2120: refusal 5", encode(14392, 1799, 0, 2120), 5);
+    told("K 14392, room 0: refusal 5", encode(14392, 1799, 0, 0), 5);
+    told("K 14392, 1798 bytes: refusal 2", encode(14392, 1798, 0, 2121), 2);
+    told("K 14392, 1800 bytes: refusal 2", encode(14392, 1800, 0, 2121), 2);
+    told("delimiter 1024: refusal 4", encode(14392, 1799, 1024, 2121), 4);
+    told("1024, room 2120: refusal 4", encode(14392, 1799, 1024, 2120), 4);
+
+    begin();
+    lent(&payload)[0] = 0x02;
+    nothing_changes();
+    told("K 1, byte 02, 1024: refusal 3", encode(1, 1, 1024, 322), 3);
+    told("K 1, byte 02, 2 bytes: refusal 2", encode(1, 2, 1024, 322), 2);
+    told("K 0, byte 02, 2 bytes: refusal 1", encode(0, 2, 1024, 0), 1);
+}
+
+/* Line words */
+
+static void line_of_zero(void)
+{
+    begin();
+    put_line_of_zero(&line);
+}
+
+static void line_lessons(void)
+{
+    line_of_zero();
+    nothing_changes();
+    told("320 of 00, FE 07: accepted", check_line(1, 322, 1023), 0);
+    told("against 1022: delimiter 0", check_line(1, 322, 1022), verdict(BIRDOVESTA_DELIMITER, 0));
+    told("against 511: delimiter 9", check_line(1, 322, 511), verdict(BIRDOVESTA_DELIMITER, 9));
+
+    int all = 1;
+    for (size_t place = 0; place < SENT; place++) {
+        line_of_zero();
+        flip(&line, 1 + place);
+        nothing_changes();
+        all &= check_line(1, 322, 1023) == verdict(BIRDOVESTA_PARITY, place) && bytes_right();
+    }
+    fact("each parity place named", all);
+
+    all = 1;
+    for (size_t at = 0; at < 10; at++) {
+        line_of_zero();
+        flip(&line, 1 + SENT + at);
+        nothing_changes();
+        all &= check_line(1, 322, 1023) == verdict(BIRDOVESTA_DELIMITER, at) && bytes_right();
+    }
+    fact("each delimiter bit named", all);
+
+    line_of_zero();
+    flip(&line, 1 + 2559);
+    nothing_changes();
+    told("parity goes before delimiter", check_line(1, 322, 0), verdict(BIRDOVESTA_PARITY, 2559));
+
+    line_of_zero();
+    nothing_changes();
+    told("line, K 0: refusal 1", check_line(0, 322, 1023), 1);
+    told("line, K 14393: refusal 1", check_line(14393, 2121, 1023), 1);
+    told("line, K 0, 321 bytes: refusal 1", check_line(0, 321, 1023), 1);
+    told("line of 0 bytes: refusal 2", check_line(1, 0, 1023), 2);
+    told("line of 321 bytes: refusal 2", check_line(1, 321, 1023), 2);
+    told("line of 323 bytes: refusal 2", check_line(1, 323, 1023), 2);
+    told("line, delimiter 1024: refusal 4", check_line(1, 322, 1024), 4);
+
+    line_of_zero();
+    flip(&line, 2571);
+    nothing_changes();
+    told("line, unused bit: refusal 3", check_line(1, 322, 1023), 3);
+    told("and delimiter 1024: refusal 3", check_line(1, 322, 1024), 3);
+    told("and 321 bytes: refusal 2", check_line(1, 321, 1024), 2);
+}
+
+/* From the encoder to the check, for each K mod 8 up to the
+ * largest K: the payload comes first, the delimiter last,
+ * and the check accepts it. The parity of such payloads is
+ * not in the paper, so it is taken as written. */
+static void there_and_back(void)
+{
+    int payloads = 1, delimiters = 1, accepted = 1, others = 1;
+    for (size_t bits = PAYLOAD_MOST - 15; bits <= PAYLOAD_MOST; bits++) {
+        size_t bytes = (bits + 7) / 8, delimiter = bits * 77 % 1024;
+        size_t needed = BIRDOVESTA_LINE_BYTES(bits);
+        begin();
+        for (size_t place = bits; place < 8 * bytes; place++)
+            lent(&payload)[place / 8] &= (uint8_t)~(1u << place % 8);
+        nothing_changes();
+        accepted &= encode(bits, bytes, delimiter, MOST) == 0;
+        memcpy(lent(&line_later), lent(&line), needed);
+        others &= bytes_right();
+        for (size_t place = 0; place < 8 * needed; place++) {
+            unsigned found = lent(&line)[place / 8] >> place % 8 & 1;
+            if (place < bits)
+                payloads &= found == (lent(&payload)[place / 8] >> place % 8 & 1u);
+            else if (place >= bits + SENT)
+                delimiters &= found == (delimiter >> (place - bits - SENT) & 1);
+        }
+        accepted &= check_line(bits, needed, delimiter) == 0;
+        others &= bytes_right();
+    }
+    fact("16 counts K: payload comes first", payloads);
+    fact("16 counts K: delimiter, then 0s", delimiters);
+    fact("16 counts K: accepted again", accepted);
+    fact("16 counts K: no other byte moved", others);
+}
+
+int main(void)
+{
+    full_word_lessons();
+    encoder_lessons();
+    line_lessons();
+    there_and_back();
+    printf("%u right, %u wrong\n", right, wrong);
+    return wrong > 0;
+}

@@ -1,0 +1,509 @@
+//! Compares the archive with the yardstick (paper.rs) over seeded cases: the answer's number, and every byte
+//! that was lent, with guard bytes on both sides. Prints how often each answer was reached and ends with
+//! `N cases, M wrong`. The exit status is 1 if anything differs, or if some answer was never reached.
+//! Another seed than the usual one can be given as the only argument.
+
+mod archive;
+mod paper;
+mod random;
+mod table;
+
+use paper::*;
+use random::Random;
+
+const SEED: u64 = 142;
+const GUARD: usize = 64;
+
+/// How many cases of each kind are tried.
+const FINE_EACH: usize = 16;
+const DAMAGED_EACH: usize = 60;
+const REFUSED_EACH: usize = 16;
+
+/// Bytes to be lent, with guard bytes on both sides.
+struct Lent {
+    all: Vec<u8>,
+}
+
+impl Lent {
+    fn new(random: &mut Random, bytes: &[u8]) -> Lent {
+        let mut all = random.bytes(GUARD);
+        all.extend(bytes);
+        all.extend(random.bytes(GUARD));
+        Lent { all }
+    }
+
+    fn part(&mut self) -> &mut [u8] {
+        let end = self.all.len() - GUARD;
+        &mut self.all[GUARD..end]
+    }
+}
+
+/// What was reached, in the order in which it is printed.
+struct Reached {
+    counts: Vec<(String, usize)>,
+}
+
+impl Reached {
+    fn new() -> Reached {
+        let mut names = vec!["encode written".to_string()];
+        let refusals = [("encode", 5), ("word", 2), ("line", 4)];
+        for verdict in ["word accepted", "word shortened", "word check"] {
+            names.push(verdict.to_string());
+        }
+        for verdict in ["line accepted", "line parity", "line delimiter"] {
+            names.push(verdict.to_string());
+        }
+        for (call, last) in refusals {
+            names.extend((1..=last).map(|n| format!("{} refusal {}", call, n)));
+        }
+        for (call, last) in refusals {
+            for first in 1..=last {
+                names.extend((first + 1..=last).map(|second| before(call, &[first, second])));
+            }
+        }
+        for other in ["word shortened before check", "word shortened, checks hold", "line parity before delimiter"] {
+            names.push(other.to_string());
+        }
+        for room in ["encode with room to spare", "encode with room one short"] {
+            names.push(room.to_string());
+        }
+        for (call, _) in refusals {
+            names.extend((0..8).map(|remainder| fine_by_remainder(call, remainder)));
+        }
+        Reached { counts: names.into_iter().map(|name| (name, 0)).collect() }
+    }
+
+    fn add(&mut self, name: &str) {
+        let entry = self.counts.iter_mut().find(|entry| entry.0 == name);
+        entry.unwrap_or_else(|| panic!("{} is not in the list", name)).1 += 1;
+    }
+}
+
+fn before(call: &str, faults: &[u64]) -> String {
+    format!("{} {} before {}", call, faults[0], faults[1])
+}
+
+fn fine_by_remainder(call: &str, remainder: usize) -> String {
+    format!("{} fine, K mod 8 is {}", call, remainder)
+}
+
+fn name_of(call: &str, answer: Answer) -> String {
+    match answer {
+        Answer::Fine if call == "encode" => "encode written".to_string(),
+        Answer::Fine => format!("{} accepted", call),
+        Answer::Refused(n) => format!("{} refusal {}", call, n),
+        Answer::Shortened(_) => format!("{} shortened", call),
+        Answer::Check(_) => format!("{} check", call),
+        Answer::Parity(_) => format!("{} parity", call),
+        Answer::Delimiter(_) => format!("{} delimiter", call),
+    }
+}
+
+struct Comparison {
+    code: Code,
+    random: Random,
+    reached: Reached,
+    cases: usize,
+    wrong: usize,
+}
+
+impl Comparison {
+    fn complain(&mut self, what: &str) {
+        self.wrong += 1;
+        if self.wrong <= 20 {
+            println!("wrong: {}", what);
+        }
+    }
+
+    /// One case: the yardstick's answer, the one that the case was made for (if it was made for one), the
+    /// archive's, and whether every lent byte is as it must be.
+    fn judge(&mut self, call: &str, k: usize, ours: Answer, made_for: Option<Answer>, told: u64, bytes_right: bool) {
+        self.cases += 1;
+        self.reached.add(&name_of(call, ours));
+        if ours == Answer::Fine {
+            self.reached.add(&fine_by_remainder(call, k % 8));
+        }
+        if let Some(meant) = made_for.filter(|&meant| meant != ours) {
+            self.complain(&format!("yardstick, {} K {}\n  {:?}, not {:?}", call, k, ours, meant));
+        }
+        if told != ours.number() {
+            self.complain(&format!("{} K {}\n  told {}, not {}", call, k, told, ours.number()));
+        } else if !bytes_right {
+            self.complain(&format!("{} K {}\n  told {}, bytes differ", call, k, told));
+        }
+    }
+
+    fn encode(&mut self, k: usize, u: &[u8], delimiter: usize, room: usize, made_for: Option<Answer>) {
+        let (ours, word) = self.code.encode(k, u, delimiter, room);
+        let mut payload = Lent::new(&mut self.random, u);
+        let old = self.random.bytes(room);
+        let mut line = Lent::new(&mut self.random, &old);
+        let payload_later = payload.all.clone();
+        let mut line_later = line.all.clone();
+        line_later[GUARD..GUARD + word.len()].copy_from_slice(&word);
+        let told = archive::encode(k, payload.part(), delimiter, line.part());
+        let bytes_right = payload.all == payload_later && line.all == line_later;
+        if ours == Answer::Fine && room > word.len() {
+            self.reached.add("encode with room to spare");
+        }
+        if ours == Answer::Refused(5) && room + 1 == bytes_for(line_bits(k)) {
+            self.reached.add("encode with room one short");
+        }
+        self.judge("encode", k, ours, made_for, told, bytes_right);
+    }
+
+    fn check_word(&mut self, k: usize, bytes: &[u8], made_for: Option<Answer>) {
+        let ours = self.code.check_word(k, bytes);
+        let mut word = Lent::new(&mut self.random, bytes);
+        let later = word.all.clone();
+        let told = archive::check_word(k, word.part());
+        let bytes_right = word.all == later;
+        if let Answer::Shortened(_) = ours {
+            let fails = self.code.checks(bytes).contains(&true);
+            self.reached.add(if fails { "word shortened before check" } else { "word shortened, checks hold" });
+        }
+        self.judge("word", k, ours, made_for, told, bytes_right);
+    }
+
+    fn check_line(&mut self, k: usize, bytes: &[u8], delimiter: usize, made_for: Option<Answer>) {
+        let ours = self.code.check_line(k, bytes, delimiter);
+        let mut line = Lent::new(&mut self.random, bytes);
+        let later = line.all.clone();
+        let told = archive::check_line(k, line.part(), delimiter);
+        let bytes_right = line.all == later;
+        self.judge("line", k, ours, made_for, told, bytes_right);
+    }
+
+    /// A payload count with this remainder by 8: one of the least, any, or the largest.
+    fn count(&mut self, remainder: usize, size: usize) -> usize {
+        let k = match size {
+            0 => remainder + 8 * self.random.below(3),
+            1 => remainder + 8 * self.random.below(PAYLOAD_MOST / 8),
+            _ => PAYLOAD_MOST - (8 - remainder) % 8,
+        };
+        k.max(if remainder == 0 { 8 } else { 1 })
+    }
+
+    /// Any payload count, each remainder by 8 in turn.
+    fn any_count(&mut self, n: usize) -> usize {
+        self.count(n % 8, n / 8 % 3)
+    }
+
+    /// A payload of K bits: zeros, ones, one bit alone, or (most often) random.
+    fn payload(&mut self, k: usize) -> Vec<u8> {
+        let mut bytes = vec![0; bytes_for(k)];
+        match self.random.below(8) {
+            0 => {}
+            1 => bytes.fill(255),
+            2 => flip(&mut bytes, self.random.below(k)),
+            _ => bytes = self.random.bytes(bytes_for(k)),
+        }
+        clear_from(&mut bytes, k);
+        bytes
+    }
+
+    fn delimiter(&mut self) -> usize {
+        match self.random.below(4) {
+            0 => 0,
+            1 => DELIMITER_MOST,
+            _ => self.random.below(DELIMITER_MOST + 1),
+        }
+    }
+
+    fn line_of(&mut self, k: usize, delimiter: usize) -> Vec<u8> {
+        let u = self.payload(k);
+        self.code.encode(k, &u, delimiter, usize::MAX).1
+    }
+
+    fn word_of(&mut self, k: usize) -> Vec<u8> {
+        let u = self.payload(k);
+        self.code.full_word(k, &u)
+    }
+
+    /// Inverts a few bits of places from..to.
+    fn damage(&mut self, bytes: &mut [u8], from: usize, to: usize) {
+        for _ in 0..1 + self.random.below(3) {
+            flip(bytes, from + self.random.below(to - from));
+        }
+    }
+
+    // Cases without a fault.
+
+    fn fine(&mut self) {
+        for n in 0..FINE_EACH * 24 {
+            let k = self.any_count(n);
+            let u = self.payload(k);
+            let delimiter = self.delimiter();
+            let spare = if n % 2 == 0 { 0 } else { 1 + self.random.below(80) };
+            self.encode(k, &u, delimiter, bytes_for(line_bits(k)) + spare, Some(Answer::Fine));
+            let word = self.word_of(k);
+            self.check_word(k, &word, Some(Answer::Fine));
+            let line = self.line_of(k, delimiter);
+            self.check_line(k, &line, delimiter, Some(Answer::Fine));
+        }
+    }
+
+    // Damaged words.
+
+    fn damaged_words(&mut self) {
+        for n in 0..DAMAGED_EACH {
+            let k = self.any_count(n);
+            let mut word = self.word_of(k);
+            self.damage(&mut word, 0, k);
+            self.check_word(k, &word, None);
+
+            let mut word = self.word_of(k);
+            self.damage(&mut word, PAYLOAD_PLACES, PLACES);
+            self.check_word(k, &word, None);
+
+            // a punctured place alone: it counts in a full word
+            let mut word = self.word_of(k);
+            flip(&mut word, PAYLOAD_PLACES + SENT + self.random.below(PLACES - PAYLOAD_PLACES - SENT));
+            self.check_word(k, &word, None);
+
+            // one check alone fails
+            let row = [0, 1, 255, 256, 2815, 2816, 3071, self.random.below(CHECKS)][n % 8];
+            let mut word = self.word_of(k);
+            let mut checks = vec![false; CHECKS];
+            checks[row] = true;
+            for (byte, more) in word[PAYLOAD_PLACES / 8..].iter_mut().zip(self.code.parity_with(&checks)) {
+                *byte ^= more;
+            }
+            self.check_word(k, &word, Some(Answer::Check(row)));
+
+            // shortened, and checks fail: the lowest, the highest, any
+            let place = [k, PAYLOAD_PLACES - 1, k + self.random.below(PAYLOAD_PLACES - k)][n % 3];
+            let mut word = self.word_of(k);
+            flip(&mut word, place);
+            self.check_word(k, &word, Some(Answer::Shortened(place)));
+            self.damage(&mut word, 0, k);
+            self.damage(&mut word, PAYLOAD_PLACES, PLACES);
+            self.check_word(k, &word, Some(Answer::Shortened(place)));
+            self.damage(&mut word, k, PAYLOAD_PLACES);
+            self.check_word(k, &word, None);
+
+            // shortened, though every check holds
+            let mut u = self.payload(k);
+            u.resize(PAYLOAD_PLACES / 8, 0);
+            flip(&mut u, place);
+            if place + 1 < PAYLOAD_PLACES {
+                self.damage(&mut u, place + 1, PAYLOAD_PLACES);
+            }
+            let word = self.code.full_word(PAYLOAD_PLACES, &u);
+            self.check_word(k, &word, Some(Answer::Shortened(place)));
+
+            // bytes with no meaning
+            let word = self.random.bytes(WORD_BYTES);
+            self.check_word(k, &word, None);
+        }
+    }
+
+    fn damaged_lines(&mut self) {
+        for n in 0..DAMAGED_EACH {
+            let k = self.any_count(n);
+            let delimiter = self.delimiter();
+            let mut line = self.line_of(k, delimiter);
+            self.damage(&mut line, 0, k);
+            self.check_line(k, &line, delimiter, None);
+
+            let place = [0, SENT - 1, self.random.below(SENT)][n % 3];
+            let mut line = self.line_of(k, delimiter);
+            flip(&mut line, k + place);
+            self.check_line(k, &line, delimiter, Some(Answer::Parity(place)));
+            self.damage(&mut line, k, k + SENT);
+            self.check_line(k, &line, delimiter, None);
+
+            let at = [0, DELIMITER_BITS - 1, self.random.below(DELIMITER_BITS)][n % 3];
+            let mut line = self.line_of(k, delimiter);
+            flip(&mut line, k + SENT + at);
+            self.check_line(k, &line, delimiter, Some(Answer::Delimiter(at)));
+            flip(&mut line, k + place);
+            self.reached.add("line parity before delimiter");
+            self.check_line(k, &line, delimiter, Some(Answer::Parity(place)));
+
+            let line = self.line_of(k, delimiter);
+            let other = self.delimiter();
+            self.check_line(k, &line, other, None);
+
+            // bytes with no meaning
+            let mut line = self.random.bytes(bytes_for(line_bits(k)));
+            clear_from(&mut line, line_bits(k));
+            self.check_line(k, &line, delimiter, None);
+        }
+    }
+
+    // Refusals: every set of faults, so also every pair whose order could be swapped.
+
+    /// A payload count: a wrong one if faults has 1; one whose run of bits has unused bits if it has 3.
+    fn faulty_count(&mut self, n: usize, faults: &[u64], huge: bool, run: fn(usize) -> usize) -> usize {
+        loop {
+            let k = if faults.contains(&1) {
+                match self.random.below(if huge { 7 } else { 3 }) {
+                    0 => 0,
+                    1 => PAYLOAD_MOST + 1,
+                    2 => PAYLOAD_MOST + 1 + self.random.below(300),
+                    3 => (1 << 16) + 1 + self.random.below(PAYLOAD_MOST),
+                    4 => (1 << 32) + 1 + self.random.below(PAYLOAD_MOST),
+                    5 => (1 << 63) + 1 + self.random.below(PAYLOAD_MOST),
+                    _ => usize::MAX - self.random.below(3000),
+                }
+            } else {
+                let n = n + self.random.below(24);
+                self.any_count(n)
+            };
+            if !(faults.contains(&3) && run(k) % 8 == 0) {
+                return k;
+            }
+        }
+    }
+
+    /// A run of this many bits: too many or too few bytes if faults has 2; an unused bit set if it has 3.
+    fn faulty_run(&mut self, faults: &[u64], bits: usize) -> Vec<u8> {
+        let mut count = bytes_for(bits);
+        while faults.contains(&2) && (count == bytes_for(bits) || count > 4000) {
+            count = match self.random.below(4) {
+                0 => bytes_for(bits).wrapping_sub(1),
+                1 => bytes_for(bits).saturating_add(1),
+                2 => 0,
+                _ => self.random.below(3000),
+            };
+        }
+        let mut bytes = self.random.bytes(count);
+        clear_from(&mut bytes, bits);
+        if faults.contains(&3) {
+            let place = bits.saturating_add(self.random.below(8 - bits % 8));
+            if place / 8 < count {
+                flip(&mut bytes, place);
+            }
+            if faults.contains(&2) && count > 0 {
+                bytes[count - 1] |= 128;
+            }
+        }
+        bytes
+    }
+
+    fn faulty_delimiter(&mut self, faults: &[u64]) -> usize {
+        if !faults.contains(&4) {
+            return self.delimiter();
+        }
+        match self.random.below(5) {
+            0 => DELIMITER_MOST + 1,
+            1 => DELIMITER_MOST + 1 + self.random.below(5000),
+            2 => (1 << 16) + self.random.below(1024),
+            3 => (1 << 32) + self.random.below(1024),
+            _ => usize::MAX,
+        }
+    }
+
+    fn refused_encodes(&mut self) {
+        for faults in sets_of(5) {
+            for n in 0..REFUSED_EACH {
+                let huge = faults.contains(&2) && faults.contains(&5);
+                let k = self.faulty_count(n, &faults, huge, |k| k);
+                let u = self.faulty_run(&faults, k);
+                let delimiter = self.faulty_delimiter(&faults);
+                let needed = bytes_for(line_bits(k));
+                let room = if faults.contains(&5) {
+                    [needed - 1, 0, self.random.below(needed)][n % 3].min(4000)
+                } else {
+                    needed + [0, self.random.below(80)][n % 2]
+                };
+                if faults.len() == 2 {
+                    self.reached.add(&before("encode", &faults));
+                }
+                self.encode(k, &u, delimiter, room, Some(Answer::Refused(faults[0])));
+            }
+        }
+    }
+
+    fn refused_words(&mut self) {
+        for faults in sets_of(2) {
+            for n in 0..REFUSED_EACH {
+                let k = self.faulty_count(n, &faults, true, |_| PLACES);
+                let word = self.faulty_run(&faults, PLACES);
+                if faults.len() == 2 {
+                    self.reached.add(&before("word", &faults));
+                }
+                self.check_word(k, &word, Some(Answer::Refused(faults[0])));
+            }
+        }
+    }
+
+    fn refused_lines(&mut self) {
+        for faults in sets_of(4) {
+            for n in 0..REFUSED_EACH {
+                let k = self.faulty_count(n, &faults, faults.contains(&2), line_bits);
+                let line = self.faulty_run(&faults, line_bits(k));
+                let delimiter = self.faulty_delimiter(&faults);
+                if faults.len() == 2 {
+                    self.reached.add(&before("line", &faults));
+                }
+                self.check_line(k, &line, delimiter, Some(Answer::Refused(faults[0])));
+            }
+        }
+    }
+
+    /// What paper 01 says of the table and of single places, told of the yardstick itself.
+    fn yardstick_itself(&mut self) {
+        let present = |line: &[i16; 12]| line.iter().filter(|&&entry| entry != -1).count();
+        let in_range = table::TABLE.iter().flatten().all(|entry| (-1..=255).contains(entry));
+        let all: usize = table::TABLE.iter().map(present).sum();
+        let of_parity: usize = table::TABLE[57..].iter().map(present).sum();
+        if !in_range || all != 275 || of_parity != 53 {
+            self.complain("yardstick, facts of the table");
+        }
+        let lessons: [(usize, &[usize]); 5] = [
+            (0, &[176, 919, 1655, 2304, 2607, 3019]),
+            (255, &[175, 918, 1654, 2559, 2606, 3018]),
+            (256, &[256, 677, 1110, 1490, 1930, 2096]),
+            (14391, &[311, 1214, 2677]),
+            (14592, &[551, 1024, 1633]),
+        ];
+        for (place, expected) in lessons {
+            let found: Vec<usize> = (0..CHECKS).filter(|&check| has_one(check, place)).collect();
+            if found != expected {
+                self.complain(&format!("yardstick, checks of place {}", place));
+            }
+        }
+    }
+}
+
+/// The bytes with every bit from a place on made 0.
+fn clear_from(bytes: &mut [u8], place: usize) {
+    if let Some(byte) = bytes.get_mut(place / 8) {
+        *byte &= (1u8 << (place % 8)) - 1;
+    }
+    for byte in bytes.iter_mut().skip(place / 8 + 1) {
+        *byte = 0;
+    }
+}
+
+/// Every set of refusals 1 to last but the empty one, lowest first.
+fn sets_of(last: u64) -> Vec<Vec<u64>> {
+    (1u64..1 << last).map(|set| (1..=last).filter(|n| set >> (n - 1) & 1 == 1).collect()).collect()
+}
+
+fn main() {
+    let seed = std::env::args().nth(1).map_or(SEED, |word| word.parse().expect("a seed is a number"));
+    let random = Random(seed);
+    let mut comparison = Comparison { code: Code::new(), random, reached: Reached::new(), cases: 0, wrong: 0 };
+    comparison.yardstick_itself();
+    comparison.fine();
+    comparison.damaged_words();
+    comparison.damaged_lines();
+    comparison.refused_encodes();
+    comparison.refused_words();
+    comparison.refused_lines();
+    let mut missed = 0;
+    for (name, count) in &comparison.reached.counts {
+        println!("{}: {}", name, count);
+        missed += usize::from(*count == 0);
+    }
+    if missed > 0 {
+        println!("{} never reached", missed);
+    }
+    println!("{} cases, {} wrong", comparison.cases, comparison.wrong);
+    if missed > 0 || comparison.wrong > 0 {
+        std::process::exit(1);
+    }
+}
