@@ -2,3 +2,4 @@ pub mod Orders
 pub mod Same
 pub mod FullWords
 pub mod Streams
+pub mod Lines
