@@ -1,0 +1,66 @@
+-- The numbers that the C host is answered.
+--
+--   causeNumber c       cause x 2^32 + count x 2^16 + place, with cause 1 shortened, 2 check, 3 parity, 4 delimiter; the count is 0
+--   verdictNumber v     0 for accepted
+--   judgementNumber j   the refusal's number, or the verdict's
+--   JudgementFits j     its place is below 2^16, as every place of a word is
+--   HostEncoded ..      what birdovesta_encode promises
+--   HostWord ..         what birdovesta_check_word promises
+--   HostLine ..         what birdovesta_check_line promises
+--
+-- Believe this file beside the paper; nothing here is proved.
+use mathlib.Core.Path.{_≡_}
+use mathlib.Core.List.{List}
+use Prim.Native.Nat.{ℕ, _+_, _*_, _^_, _<_}
+use Rattle.rules.specs.Promises.{number, Encoded, WordChecked, LineChecked}
+use Rattle.rules.specs.declared.Answer.{Answer}
+use Rattle.rules.specs.declared.Cause.{Cause}
+use Rattle.rules.specs.declared.Cause.the-variants.{Shortened, Check, Parity, Delimiter}
+use Rattle.rules.specs.declared.Verdict.{Verdict}
+use Rattle.rules.specs.declared.Verdict.the-variants.{Accepted, Rejected}
+use Rattle.rules.specs.declared.Judgement.{Judgement}
+use Rattle.rules.specs.declared.Judgement.the-variants.{Judged, Refused}
+
+abbrev pub causeNumber : Cause → ℕ
+causeNumber (Shortened n) = 1 * 2 ^ 32 + n
+causeNumber (Check n) = 2 * 2 ^ 32 + n
+causeNumber (Parity n) = 3 * 2 ^ 32 + n
+causeNumber (Delimiter n) = 4 * 2 ^ 32 + n
+
+abbrev pub verdictNumber : Verdict → ℕ
+verdictNumber Accepted = 0
+verdictNumber (Rejected c) = causeNumber c
+
+abbrev pub judgementNumber : Judgement → ℕ
+judgementNumber (Judged v) = verdictNumber v
+judgementNumber (Refused n) = n
+
+-- places below 2^16, so that a count has room above them
+abbrev pub CauseFits : Cause → Type 0
+CauseFits (Shortened n) = n < 2 ^ 16
+CauseFits (Check n) = n < 2 ^ 16
+CauseFits (Parity n) = n < 2 ^ 16
+CauseFits (Delimiter n) = n < 2 ^ 16
+
+abbrev pub VerdictFits : Verdict → Type 0
+VerdictFits Accepted = Unit
+VerdictFits (Rejected c) = CauseFits c
+
+abbrev pub JudgementFits : Judgement → Type 0
+JudgementFits (Judged v) = VerdictFits v
+JudgementFits (Refused n) = Unit
+
+pub record HostEncoded (K : ℕ) (u : List ℕ) (d : ℕ) (o : List ℕ) (r : ℕ) (o′ : List ℕ) : Type 0 where
+  pub answer : Answer
+  pub encoded : Encoded K u d o answer o′
+  pub result : r ≡ number answer
+
+pub record HostWord (K : ℕ) (w : List ℕ) (r : ℕ) : Type 0 where
+  pub judgement : Judgement
+  pub checked : WordChecked K w judgement
+  pub result : r ≡ judgementNumber judgement
+
+pub record HostLine (K : ℕ) (l : List ℕ) (d r : ℕ) : Type 0 where
+  pub judgement : Judgement
+  pub checked : LineChecked K l d judgement
+  pub result : r ≡ judgementNumber judgement

@@ -1,0 +1,48 @@
+// The C boundary: the bench host calls the encoder and both checks with numbers and byte slices only. The header
+// include/birdovesta.h says what the host answers for.
+ghost use mathlib.Core.Path.{_≡_};
+ghost use Rattle.host.specs.Numbers.{causeNumber, verdictNumber, judgementNumber, CauseFits, VerdictFits, JudgementFits};
+ghost use Rattle.host.specs.Numbers.{HostWord};
+use rules::Cause;
+use rules::Judgement;
+use rules::Verdict;
+
+fn cause_number(cause: Cause) -> u64
+    requires { ⌜ CauseFits cause ⌝ }
+    ensures { λ r. ⌜ r ≡ causeNumber cause ⌝ }
+{
+    match cause {
+        Cause::Shortened(place) => 0x1_0000_0000 + place as u64,
+        Cause::Check(row) => 0x2_0000_0000 + row as u64,
+        Cause::Parity(place) => 0x3_0000_0000 + place as u64,
+        Cause::Delimiter(bit) => 0x4_0000_0000 + bit as u64,
+    }
+}
+
+fn verdict_number(verdict: Verdict) -> u64
+    requires { ⌜ VerdictFits verdict ⌝ }
+    ensures { λ r. ⌜ r ≡ verdictNumber verdict ⌝ }
+{
+    match verdict {
+        Verdict::Accepted => 0,
+        Verdict::Rejected(cause) => cause_number(cause),
+    }
+}
+
+fn judgement_number(judgement: Judgement) -> u64
+    requires { ⌜ JudgementFits judgement ⌝ }
+    ensures { λ r. ⌜ r ≡ judgementNumber judgement ⌝ }
+{
+    match judgement {
+        Judgement::Judged(verdict) => verdict_number(verdict),
+        Judgement::Refused(number) => number as u64,
+    }
+}
+
+// Checks a full word.
+#[no_mangle]
+pub extern "C" fn birdovesta_check_word(bits: usize, word: &[u8]) -> u64
+    ensures { λ r. ⌜ HostWord bits (now (word .entry)) r ⌝ }
+{
+    judgement_number(word::check(bits, word))
+}
