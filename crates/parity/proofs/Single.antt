@@ -50,7 +50,7 @@ check-run c b n x y =
 abbrev pub made : Blocks → ℕ → Bool
 made x t = follow 256 (flat recipe) x (12 + t / 256) (t % 256)
 
-pub parity-found-own : (x : Blocks) (s p : List ℕ) → Near 256 40 x (only 12 (bits 256 (bit s))) → length p ≡ 384
+pub parity-found-own : (x : Blocks) (s p : List ℕ) → Near 256 62 x (only 12 (bits 256 (bit s))) → length p ≡ 384
     → ((t : ℕ) → t < parityPlaces → bit p t ≡ number (made x t)) → OwnChecks s p
 parity-found-own x s p begun long ends = record {
   bytes = long;

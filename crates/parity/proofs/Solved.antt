@@ -42,7 +42,7 @@ forth-8 : T (every 4 (λ j. forths (8 + j)))
 unfolding lines entry recipe forth
 forth-8 = tt
 
-pub fibre-solves : Solves fibre 57 recipe 40 12 (2 ^ 37) (2 ^ 9472 - 1)
+pub fibre-solves : Solves fibre 57 recipe 62 12 (2 ^ 37) (2 ^ 9472 - 1)
 unfolding recipe
 fibre-solves =
     record {
