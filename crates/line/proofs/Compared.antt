@@ -1,21 +1,29 @@
--- The tail of a line word compared with the encoder's.
+-- A payload as it reaches the running checks, and the tail of a line word compared with the encoder's.
 --
+--   placed-padded      K bits placed at the start of a word are the padded payload
 --   first-differing    the first 1 of the sum of two tails is where they first differ
 --   parity-differs, delimiter-differs, nothing-differs    the verdict, by that place
-use mathlib.Core.Path.{_≡_, refl, sym, ap, _∙_}
+use mathlib.Core.Path.{_≡_, refl, sym, _∙_}
 use mathlib.Core.List.{List}
-use Prim.Native.Nat.{ℕ, _+_, _-_, _*_, _%_, _≤_, _<_}
+use Prim.Native.Nat.{ℕ, _+_, _-_, _%_, _≤_, _<_}
 use native.Mathlib.Omega.{arith}
-use Rattle.rules.specs.Bits.{bit, placed, Written}
-use Rattle.rules.specs.Words.{tail, lineWord, digit}
-use Rattle.rules.specs.Verdicts.{Lowest, Nowhere, Differs, ParityDiffers, DelimiterDiffers, TailVerdict}
+use Rattle.rules.specs.Bits.{bit, zeros, run, placed, Written}
+use Rattle.rules.specs.Words.{padded, tail, lineWord, digit}
+use Rattle.rules.specs.Verdicts.{Nowhere, ParityDiffers, TailVerdict}
 use Rattle.rules.specs.declared.Cause.the-variants.{Parity, Delimiter}
 use Rattle.rules.specs.declared.Verdict.the-variants.{Accepted, Rejected}
 use Rattle.laws.proofs.Bits.{bit<}
-use Rattle.laws.proofs.Runs.{run-low, run-none, placed-in}
+use Rattle.laws.proofs.Runs.{run-low, run-high, run-each, run-none, placed-in}
 use Rattle.bits.specs.Adds.{Adds, FirstSet}
 use Rattle.writing.proofs.Tail.{tail-low, tail-high}
 use Rattle.line.specs.Difference.{FirstDifference}
+
+-- K bits placed at the start of a word are the padded payload, with no parity
+pub placed-padded : (K : ℕ) (u : ℕ → ℕ) → K ≤ 14392 → (n : ℕ) → placed 0 K u n ≡ run 14592 (padded K u) zeros n
+placed-padded K u h n =
+    run-none zeros (run K u zeros) n
+    ∙ sym
+    (run-each 14592 (padded K u) zeros n (λ v. v ≡ run K u zeros n) (λ l. refl) (λ l. sym (run-high K u zeros n (omega arith))))
 
 module _ (K : ℕ) (l p : List ℕ) (d : ℕ) where
   abbrev lineTail : ℕ → ℕ

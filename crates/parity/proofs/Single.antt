@@ -12,6 +12,7 @@
 --   parity-one          and so are its bytes
 --   payload-parity      a parity whose own checks are the payload's makes every check hold
 --   payload-own         a parity that makes every check hold has the payload's checks as its own
+--   payload-found       so does one whose own checks are running checks that began as zeros and had the payload added
 --   payload-exists      for any payload there is a parity that makes every check hold
 --   parity-bits-one     its bits are single
 --   payload-one         and so are its bytes
@@ -20,14 +21,15 @@ use mathlib.Core.Bool.{Bool}
 use mathlib.Core.List.{List}
 use Prim.Native.Nat.{ℕ, _+_, _*_, _/_, _%_, _<_}
 use native.Mathlib.Omega.{arith}
-use lib.ListN.{length}
+use lib.ListN.{length, replicate}
 use Rattle.rules.specs.Numbers.{payloadPlaces, parityPlaces}
 use Rattle.rules.specs.Bits.{bit, Bytes, zeros, run, sum}
 use Rattle.rules.specs.Matrix.{Code, check}
 use Rattle.rules.specs.Table.{fibre}
+use Rattle.rules.specs.Streams.{Added}
 use Rattle.rules.specs.Words.{fullWord, Parity, OwnChecks}
 use Rattle.rules.proofs.Checks.{check-below, check-same, check-zeros, check-sum}
-use Rattle.laws.proofs.Bits.{bit<, bits-same, pack, length-pack, bytes-pack, bit-pack}
+use Rattle.laws.proofs.Bits.{bit<, bit-zeros, bits-same, pack, length-pack, bytes-pack, bit-pack}
 use Rattle.laws.proofs.Runs.{run-low, run-high, run-each}
 use Rattle.recipes.proofs.Recipe.{Blocks, only, Near, follow, flat}
 use Rattle.recipes.proofs.Places.{number, bits, number-below}
@@ -92,6 +94,14 @@ module _ (x : ℕ → ℕ) (s p : List ℕ) (are : PayloadChecks x s) where
     same = λ n h.
         omega (arith, check-run fibre payloadPlaces n x (bit p), parity .all-hold n h, are n h, bit< s n, check-below fibre n (fullWord zeros p));
   }
+
+pub payload-found : (x y : ℕ → ℕ) (s p : List ℕ) → Added y (replicate 384 0) s → ((n : ℕ) → n < 17664 → y n ≡ run payloadPlaces x zeros n)
+    → OwnChecks s p → Parity x p
+payload-found x y s p added same = payload-parity x s p are
+  where
+    are : PayloadChecks x s
+    are n h =
+        omega (arith, added .each n h, bit-zeros 384 n, check-below fibre n y) ∙ check-same fibre n y (run payloadPlaces x zeros) same
 
 -- the payload's checks, as bytes
 packed : (ℕ → ℕ) → List ℕ

@@ -38,3 +38,25 @@ pub fn piece(stream: Stream, count: usize, bytes: &[u8]) -> Step
         },
     }
 }
+
+// Finishes: writes the sent parity and the delimiter, and hands back a fresh stream.
+pub fn finish(stream: Stream, delimiter: usize, line: &mut [u8]) -> Step
+    ensures { λ r. ⌜ Finished delimiter stream (now (line .entry)) r (now (line .exit)) ⌝ }
+{
+    let held = stream.held;
+    let refusal = refusals::finish(held, delimiter, line.len());
+    if refusal != 0 {
+        return Step {
+            answer: Answer::Refused(refusal),
+            stream: stream,
+        };
+    }
+    let checks = stream.checks;
+    let mut parity = [0u8; 384];
+    parity::solve(&checks, &mut parity);
+    writing::write(line, 0, &checks, &parity, delimiter);
+    Step {
+        answer: Answer::Done,
+        stream: begin(),
+    }
+}

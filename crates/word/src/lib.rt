@@ -7,8 +7,9 @@ ghost use Rattle.rules.specs.Matrix.{entry};
 ghost use Rattle.rules.specs.Table.{fibre};
 ghost use Rattle.rules.specs.Terms.{term};
 ghost use Rattle.rules.specs.Verdicts.{WordVerdict};
-ghost use Rattle.rules.specs.Promises.{WordChecked};
+ghost use Rattle.rules.specs.Promises.{Completed, WordChecked};
 ghost use Rattle.word.specs.Scan.{Scanned};
+use rules::Answer;
 use rules::Cause;
 use rules::Judgement;
 use rules::Verdict;
@@ -73,4 +74,18 @@ pub fn check(count: usize, word: &[u8]) -> Judgement
         return Judgement::Refused(refusal);
     }
     Judgement::Judged(judge(count, word))
+}
+
+// Completes a full word: only the part from byte 1,824 on, its parity, is lent to be written.
+pub fn complete(count: usize, word: &mut [u8]) -> Answer
+    ensures { λ r. ⌜ Completed count (now (word .entry)) r (now (word .exit)) ⌝ }
+{
+    let refusal = refusals::complete(count, word);
+    if refusal != 0 {
+        return Answer::Refused(refusal);
+    }
+    let mut checks = [0u8; 384];
+    running::add_blocks(&mut checks, word, 0, 57);
+    parity::solve(&checks, &mut word[1824..]);
+    Answer::Done
 }
