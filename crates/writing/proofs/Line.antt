@@ -1,6 +1,7 @@
 -- A line word, written in two runs to cleared bytes.
 --
 --   line-written    the payload's bits and then the tail, added to cleared bytes, are the line word
+--   tail-written    a line word with no payload is its tail
 use mathlib.Core.Path.{_≡_, refl, sym, ap, _∙_}
 use mathlib.Core.List.{List, _++_}
 use Prim.Native.Nat.{ℕ, _+_, _-_, _*_, _%_, _≤_, _<_}
@@ -63,3 +64,10 @@ module _ (K : ℕ) (u : ℕ → ℕ) (p : List ℕ) (d : ℕ) (bits : (n : ℕ) 
       bits = λ n h. within n (omega arith);
       after = rw (← hk) (bits-same (drop k t) (drop k s) (bytes-drop t bt) (bytes-drop s bs) (simp length-drop (omega (arith, line-length))) (λ n h. past n));
     }
+
+pub tail-written : (u : ℕ → ℕ) (p : List ℕ) (d : ℕ) (s t : List ℕ) → Written 2570 (lineWord 0 u p d) s t → Written 2570 (tail p d) s t
+tail-written u p d s t w = record {
+  length-same = w .length-same;
+  bits = λ n h. w .bits n h ∙ run-same 2570 (lineWord 0 u p d) zeros (tail p d) zeros (λ k l. run-none u (tail p d) k) (λ k. refl) n;
+  after = w .after;
+}

@@ -1,5 +1,12 @@
 -- `stream::finish` meets its contract.
 use borrow.Author.Needs.{needs}
+use mathlib.Core.Path.{subst}
+use native.Mathlib.Omega.{arith}
+use lib.Dec.{lit≤}
+use lib.ListN.{length}
+use Rattle.rules.specs.Refusals.{FinishTold}
+use Rattle.laws.proofs.Passed.{finish-passed}
+use Rattle.writing.proofs.Line.{tail-written}
 use Rattle.stream.proofs.finish.Statement.{statement}
 use Rattle.stream.proofs.finish.Tie as tie
 
@@ -25,7 +32,10 @@ slice-aggregate-write-2 : tie.Need-slice-aggregate-write-2
 slice-aggregate-write-2 c = search needs
 
 write-requires : tie.Need-write-requires
-write-requires c κs = search needs
+write-requires c κs =
+    let a = c .before .before .before .before .before .before .before .before .before .before .before .args in
+    let p = finish-passed (c .before .before .before .before .before .before .before .before .if1 .left) (a .stream .held) (a .delimiter) (length (a .line .now)) (c .before .before .before .before .before .before .before .before .before .finish .ensures) in
+    (lit≤ tt, omega arith, search needs, p .2, p .3)
 
 begin-requires : tie.Need-begin-requires
 begin-requires c κs = search needs
@@ -34,7 +44,15 @@ same-length : tie.Need-same-length
 same-length c = search needs
 
 returns-2 : tie.Need-returns-2
-returns-2 c = search needs
+returns-2 c =
+    let a = c .before .before .before .before .before .before .before .before .before .before .before .before .before .before .before .args in
+    let w = c .before .before .before .write in
+    let p = c .before .before .before .before .before .before .before .before .solve in
+    record {
+      told =
+          subst (FinishTold (a .stream .held) (a .delimiter) (length (a .line .now))) (c .before .before .before .before .before .before .before .before .before .before .before .before .if1 .left) (c .before .before .before .before .before .before .before .before .before .before .before .before .before .finish .ensures);
+      effect = (c .begin .ensures, p .last .1 .0, p .ensures, tail-written _ (p .last .1 .0) (a .delimiter) (a .line .now) (w .last .0) (w .ensures));
+    }
 
 pub finish-spec : {M : Type 1} → statement M
 finish-spec =
