@@ -19,7 +19,7 @@
 use mathlib.Core.Path.{_≡_, refl, sym, ap, _∙_}
 use mathlib.Core.Bool.{Bool}
 use mathlib.Core.List.{List}
-use Prim.Native.Nat.{ℕ, _+_, _*_, _/_, _%_, _<_}
+use Prim.Native.Nat.{ℕ, _+_, _/_, _%_, _<_}
 use native.Mathlib.Omega.{arith}
 use lib.ListN.{length, replicate}
 use Rattle.rules.specs.Numbers.{payloadPlaces, parityPlaces}
@@ -63,8 +63,8 @@ pub parity-exists : (s : List ℕ) → (p : List ℕ) × Bytes p × OwnChecks s 
 parity-exists s =
     let x = only 12 (bits 256 (bit s)) in
     let f : ℕ → ℕ = λ t. number (made x t) in
-    let own = parity-found-own x s (pack 384 f) (λ k r hk hr. refl) (length-pack 384 f) (λ t h. bit-pack 384 f t h (number-below (made x t))) in
-    (pack 384 f, bytes-pack 384 f, own)
+    let ends : (t : ℕ) → t < parityPlaces → bit (pack 384 f) t ≡ f t = λ t h. bit-pack 384 f t h (number-below (made x t)) in
+    (pack 384 f, bytes-pack 384 f, parity-found-own x s (pack 384 f) (λ k r hk hr. refl) (length-pack 384 f) ends)
 
 module _ (s p q : List ℕ) where
   pub own-bits-one : OwnChecks s p → OwnChecks s q → (n : ℕ) → n < parityPlaces → bit p n ≡ bit q n
@@ -92,7 +92,8 @@ module _ (x : ℕ → ℕ) (s p : List ℕ) (are : PayloadChecks x s) where
   payload-own parity = record {
     bytes = parity .bytes;
     same = λ n h.
-        omega (arith, check-run fibre payloadPlaces n x (bit p), parity .all-hold n h, are n h, bit< s n, check-below fibre n (fullWord zeros p));
+        let sum = check-run fibre payloadPlaces n x (bit p) in
+        omega (arith, parity .all-hold n h, are n h, bit< s n, check-below fibre n (fullWord zeros p));
   }
 
 pub payload-found : (x y : ℕ → ℕ) (s p : List ℕ) → Added y (replicate 384 0) s → ((n : ℕ) → n < 17664 → y n ≡ run payloadPlaces x zeros n)

@@ -1,7 +1,7 @@
 -- The recipe solves the parity of the fibre code: it passes the two computed tests, a column for each block of 256 bits.
 --
 --   fibre-solves    so for any checks there is one parity that has them, and only one
-use mathlib.Core.Path.{_≡_, refl}
+use mathlib.Core.Path.{refl}
 use mathlib.Core.Bool.{Bool}
 use Prim.Native.Nat.{ℕ, _+_, _-_, _^_}
 use lib.Dec.{T, lit<, lit≤}
@@ -18,6 +18,7 @@ backs = back (2 ^ 37) 256 (2 ^ 9472 - 1) 12 12 (parityEntry fibre 57) recipe
 abbrev forths : ℕ → Bool
 forths = forth (2 ^ 37) 256 (2 ^ 9472 - 1) 12 12 (parityEntry fibre 57) recipe
 
+-- each test in three parts: there is a limit to what one part may compute
 back-0 : T (every 4 backs)
 unfolding lines entry recipe back
 back-0 = tt

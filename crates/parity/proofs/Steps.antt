@@ -11,7 +11,7 @@
 --   followed-more       one step more
 --   followed-own        after the last step, from checks and then zeros, the next registers hold a parity that has these checks as its own
 use mathlib.Core.Path.{_≡_, refl, sym, ap, ap₂, _∙_}
-use mathlib.Core.Bool.{Bool, true, false, cond}
+use mathlib.Core.Bool.{Bool, true, false}
 use mathlib.Core.List.{List, [], _∷_}
 use Prim.Native.Nat.{ℕ, zero, suc, _+_, _-_, _*_, _/_, _%_, _≤_, _<_}
 use native.Mathlib.Decide.{decLt, ℕ-discrete}
@@ -21,7 +21,7 @@ use native.Mathlib.Omega.{arith}
 use lib.Dec.{T, eqb, ltb, ltb→lt, lit<}
 use lib.ListN.{length, getD, take, drop, length-take, length-drop}
 use borrow.Author.Tests.{eq-eqb, ne-eqb, lt-ltb, le-ltb}
-use Rattle.rules.specs.Bits.{bit, placed}
+use Rattle.rules.specs.Bits.{bit}
 use Rattle.rules.specs.Words.{OwnChecks}
 use Rattle.rules.proofs.Tests.{both, both-left, both-right, all, all-in}
 use Rattle.laws.proofs.Bits.{bit<, bit-take, bit-part}

@@ -39,10 +39,10 @@ loop-less c = search needs
 loop-again : tie.Need-loop-again Inv-loop μ-loop
 unfolding recipe
 loop-again c =
-    let l = c .before .before .before .before .before in
-    let x = l .before .before .args .registers .now in
-    let step = c .before .before .step in
-    (search needs, search needs, followed-more x (l .loop .registers) (step .last .0) (l .loop .k) (omega arith) (l .loop .inv .2) (step .ensures))
+    let s = c .before .before .step in
+    let l = c .before .before .before .before .before .loop in
+    let x = c .before .before .before .before .before .before .before .args .registers .now in
+    (search needs, search needs, followed-more x (l .registers) (s .last .0) (l .k) (omega arith) (l .inv .2) (s .ensures))
 
 same-length : tie.Need-same-length Inv-loop μ-loop
 same-length c = search needs
