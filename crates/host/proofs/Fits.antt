@@ -4,7 +4,6 @@
 use Prim.Native.Nat.{ℕ}
 use mathlib.Core.List.{List}
 use native.Mathlib.Omega.{arith}
-use Rattle.rules.specs.Bits.{bit}
 use Rattle.rules.specs.Verdicts.{WordVerdict, LineVerdict}
 use Rattle.rules.specs.Promises.{judged}
 use Rattle.rules.specs.declared.Cause.the-variants.{Shortened, Check, Parity, Delimiter}

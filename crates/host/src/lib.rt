@@ -2,10 +2,21 @@
 // include/birdovesta.h says what the host answers for.
 ghost use mathlib.Core.Path.{_≡_};
 ghost use Rattle.host.specs.Numbers.{causeNumber, verdictNumber, judgementNumber, CauseFits, VerdictFits, JudgementFits};
-ghost use Rattle.host.specs.Numbers.{HostWord};
+ghost use Rattle.host.specs.Numbers.{HostEncoded, HostWord, HostLine};
+ghost use Rattle.rules.specs.Promises.{number};
+use rules::Answer;
 use rules::Cause;
 use rules::Judgement;
 use rules::Verdict;
+
+fn answer_number(answer: Answer) -> u64
+    ensures { λ r. ⌜ r ≡ number answer ⌝ }
+{
+    match answer {
+        Answer::Done => 0,
+        Answer::Refused(number) => number as u64,
+    }
+}
 
 fn cause_number(cause: Cause) -> u64
     requires { ⌜ CauseFits cause ⌝ }
@@ -39,10 +50,31 @@ fn judgement_number(judgement: Judgement) -> u64
     }
 }
 
+// Encodes a payload.
+#[no_mangle]
+pub extern "C" fn birdovesta_encode(
+    bits: usize,
+    payload: &[u8],
+    delimiter: usize,
+    line: &mut [u8],
+) -> u64
+    ensures { λ r. ⌜ HostEncoded bits (now (payload .entry)) delimiter (now (line .entry)) r (now (line .exit)) ⌝ }
+{
+    answer_number(line::encode(bits, payload, delimiter, line))
+}
+
 // Checks a full word.
 #[no_mangle]
 pub extern "C" fn birdovesta_check_word(bits: usize, word: &[u8]) -> u64
     ensures { λ r. ⌜ HostWord bits (now (word .entry)) r ⌝ }
 {
     judgement_number(word::check(bits, word))
+}
+
+// Checks a line word.
+#[no_mangle]
+pub extern "C" fn birdovesta_check_line(bits: usize, line: &[u8], delimiter: usize) -> u64
+    ensures { λ r. ⌜ HostLine bits (now (line .entry)) delimiter r ⌝ }
+{
+    judgement_number(line::check(bits, line, delimiter))
 }
