@@ -48,15 +48,16 @@ pub fn finish(stream: Stream, delimiter: usize, line: &mut [u8]) -> Step
     if refusal != 0 {
         return Step {
             answer: Answer::Refused(refusal),
-            stream: stream,
+            stream,
         };
     }
     let checks = stream.checks;
     let mut parity = [0u8; 384];
     parity::solve(&checks, &mut parity);
     writing::write(line, 0, &checks, &parity, delimiter);
+    let next = begin();
     Step {
         answer: Answer::Done,
-        stream: begin(),
+        stream: next,
     }
 }
