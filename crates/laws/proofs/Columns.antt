@@ -7,8 +7,8 @@
 --   turn-none, turn-some   what a block of the fibre code takes, by its turn
 --   turn-told      the turn of an entry that is passed on as 16 bits is its turn
 --   check-column   a check of block j of a word alone is that column's term
-use mathlib.Core.Path.{_≡_, refl, sym, ap, _∙_}
-use Prim.Native.Nat.{ℕ, _+_, _-_, _*_, _/_, _%_, _≤_, _<_}
+use mathlib.Core.Path.{_≡_, refl, ap, _∙_}
+use Prim.Native.Nat.{ℕ, _+_, _*_, _/_, _%_, _≤_, _<_}
 use native.Mathlib.Nat.{mod-lt, mul-suc, mul-le-mul-left}
 use native.Mathlib.Decide.{decLt}
 use native.Mathlib.Omega.{arith}
@@ -18,7 +18,7 @@ use mir.Facts.{toZ-ofZ}
 use mir.Syntax.{w16}
 use mir.Val.{SFits, toZ, ofZ}
 use Rattle.rules.specs.Bits.{zeros, placed}
-use Rattle.rules.specs.Matrix.{Code, entry, total, check}
+use Rattle.rules.specs.Matrix.{Code, entry, check}
 use Rattle.rules.specs.Terms.{spot, term, turn}
 use Rattle.rules.proofs.Sums.{total-one}
 use Rattle.rules.proofs.TableLaws.{inRange}

@@ -7,7 +7,7 @@
 --   judgement-same  two answers of a check are equal, if their refusals and their verdicts are
 use mathlib.Core.Path.{_≡_, refl, sym, ap, _∙_}
 use mathlib.Core.List.{List}
-use Prim.Native.Nat.{ℕ, _<_}
+use Prim.Native.Nat.{ℕ}
 use native.Mathlib.Decide.{decLt}
 use native.Mathlib.Omega.{arith}
 use Rattle.rules.specs.Verdicts.{Lowest, Nowhere, ShortenedSet, Fails, WordVerdict, ParityDiffers, DelimiterDiffers, TailVerdict}

@@ -5,3 +5,4 @@ pub mod Running
 pub mod Told
 pub mod Judged
 pub mod Passed
+pub mod Tails

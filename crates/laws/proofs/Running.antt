@@ -7,11 +7,10 @@
 --   added-same    the running checks after a word was added are single
 use mathlib.Core.Path.{_≡_, refl, sym, ap, _∙_}
 use mathlib.Core.List.{List}
-use Prim.Native.Nat.{ℕ, _+_, _*_, _%_, _<_}
+use Prim.Native.Nat.{ℕ, _+_, _%_, _<_}
 use native.Mathlib.Omega.{arith}
 use lib.ListN.{length}
 use Rattle.rules.specs.Bits.{bit, Bytes, zeros, placed, sum}
-use Rattle.rules.specs.Matrix.{check}
 use Rattle.rules.specs.Table.{fibre}
 use Rattle.rules.specs.Streams.{Added}
 use Rattle.rules.proofs.Checks.{check-same, check-zeros, check-sum}

@@ -15,7 +15,7 @@ use Rattle.rules.specs.declared.Verdict.the-variants.{Accepted, Rejected}
 use Rattle.laws.proofs.Bits.{bit<}
 use Rattle.laws.proofs.Runs.{run-low, run-high, run-each, run-none, placed-in}
 use Rattle.bits.specs.Adds.{Adds, FirstSet}
-use Rattle.writing.proofs.Tail.{tail-low, tail-high}
+use Rattle.laws.proofs.Tails.{tail-low, tail-high}
 use Rattle.line.specs.Difference.{FirstDifference}
 
 -- K bits placed at the start of a word are the padded payload, with no parity

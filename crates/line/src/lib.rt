@@ -2,7 +2,7 @@
 ghost use Prim.Native.Nat.{_+_, _*_, _≤_};
 ghost use mathlib.Core.Path.{_≡_};
 ghost use lib.ListN.{length};
-ghost use Rattle.rules.specs.Bits.{bit, need};
+ghost use Rattle.rules.specs.Bits.{bit};
 ghost use Rattle.rules.specs.Words.{padded, Parity, tail};
 ghost use Rattle.rules.specs.Verdicts.{LineVerdict};
 ghost use Rattle.rules.specs.Promises.{Encoded, LineChecked};

@@ -1,6 +1,6 @@
 // Compares the second print of the table, Table 142-2, with Table 142-1, place by place, and says how many of the 828
 // places differ. Table 142-1 decides; this program carries its own transcription of the second.
-ghost use Prim.Native.Nat.{_+_, _*_, _≤_, _<_};
+ghost use Prim.Native.Nat.{_≤_, _<_};
 use libc::STDOUT_FILENO;
 
 // Table 142-2, as printed: 69 lines of 12 entries, C1 to C12.

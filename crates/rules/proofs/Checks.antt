@@ -7,10 +7,9 @@
 --   check-zeros      every check of the word of zeros is 0
 --   check-sum        the checks of a sum are the sums of the checks
 --   check-single     check n of a word with a 1 at place p alone is row n, place p of the matrix
-use mathlib.Core.Path.{_≡_, refl, sym, ap, ap₂, _∙_}
+use mathlib.Core.Path.{_≡_, refl, sym, ap, _∙_}
 use mathlib.Core.Bool.{Bool, true, false, cond}
-use mathlib.Core.List.{List}
-use Prim.Native.Nat.{ℕ, zero, suc, _+_, _*_, _/_, _%_, _<_, _≤_}
+use Prim.Native.Nat.{ℕ, zero, suc, _+_, _*_, _/_, _%_, _<_}
 use native.Mathlib.Nat.{add-mod, mod-lt, mod-eq-of-lt, mul-one, mul-zero, zero-mul, one-mul, suc-mul, mul-add, mul-comm}
 use native.Mathlib.Omega.{arith}
 use lib.Arith.{digits-div, digits-mod}

@@ -3,18 +3,17 @@
 --   lessons-right    the single claim
 --
 -- The places' lessons are computed. A word with a single 1 has, as its checks, that place's column of the matrix.
-use mathlib.Core.Path.{_≡_, refl, sym, ap, _∙_}
-use mathlib.Core.Bool.{Bool, true, false, cond}
+use mathlib.Core.Path.{_≡_, refl, sym, _∙_}
 use Prim.Native.Nat.{ℕ, _<_, _≤_}
 use native.Mathlib.Omega.{arith}
 use lib.ListN.{take}
-use lib.Dec.{T, eqb, eqb→eq, lit<, lit≤}
+use lib.Dec.{T, eqb, eqb→eq, lit<}
 use borrow.Author.Tests.{eq-eqb, ne-eqb}
 use Rattle.rules.specs.Bits.{zeros}
 use Rattle.rules.specs.Matrix.{entry, one, check, checksOf}
 use Rattle.rules.specs.Table.{lines, fibre}
-use Rattle.rules.specs.Verdicts.{WordVerdict, Lowest, Nowhere, ShortenedSet, Fails}
-use Rattle.rules.specs.Lessons.{only, Right, place, AllRight, lessons}
+use Rattle.rules.specs.Verdicts.{WordVerdict}
+use Rattle.rules.specs.Lessons.{only, AllRight, lessons}
 use Rattle.rules.specs.declared.Cause.the-variants.{Shortened, Check}
 use Rattle.rules.specs.declared.Verdict.the-variants.{Accepted, Rejected}
 use Rattle.rules.proofs.Tests.{every, every-at}

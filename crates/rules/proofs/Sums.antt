@@ -7,10 +7,9 @@
 --   total-one      where one term alone is not 0, the sum is that term
 --   total-blocks   a sum of z * m terms is a sum of m sums of z terms
 --   total-more     one term more, mod 2
-use mathlib.Core.Path.{_≡_, refl, sym, ap, ap₂, _∙_}
-use mathlib.Core.Logic.{⊎-elim}
-use Prim.Native.Nat.{ℕ, zero, suc, _+_, _*_, _%_, _<_, _≤_}
-use native.Mathlib.Nat.{not-suc-le-zero, add-suc, add-zero, mul-suc, mul-zero, eq-or-lt-of-le, le-of-suc-le-suc}
+use mathlib.Core.Path.{_≡_, refl, ap, ap₂, _∙_}
+use Prim.Native.Nat.{ℕ, zero, suc, _+_, _*_, _%_, _<_}
+use native.Mathlib.Nat.{not-suc-le-zero, add-suc, add-zero, mul-suc, mul-zero}
 use native.Mathlib.Numerals.{add-one}
 use native.Mathlib.Decide.{ℕ-discrete}
 use native.Mathlib.Omega.{arith}

@@ -5,7 +5,7 @@
 --   entry-fits     and fits 16 bits
 --   entry-read     an entry that the code reads is that of the definitions
 use mathlib.Core.Path.{_≡_, refl, ap, _∙_}
-use mathlib.Core.Bool.{Bool, true, false}
+use mathlib.Core.Bool.{Bool}
 use mathlib.Core.List.{List, [], _∷_}
 use Prim.Native.Nat.{ℕ, zero, suc, _+_, _<_}
 use native.Mathlib.Omega.{arith}
@@ -19,7 +19,7 @@ use mir.Syntax.{w16}
 use mir.Val.{SFits, toZ, ofZ}
 use Rattle.rules.specs.Matrix.{entry}
 use Rattle.rules.specs.Table.{lines, fibre}
-use Rattle.rules.proofs.Tests.{both, both-left, both-right, all, all-at, all-in}
+use Rattle.rules.proofs.Tests.{both, all, all-at, all-in}
 
 abbrev pub inRange : ℤ → Bool
 inRange (pos a) = ltb a 256

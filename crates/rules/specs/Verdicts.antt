@@ -17,7 +17,6 @@ use Rattle.rules.specs.Bits.{bit}
 use Rattle.rules.specs.Matrix.{check}
 use Rattle.rules.specs.Table.{fibre}
 use Rattle.rules.specs.Words.{padded, Parity, digit}
-use Rattle.rules.specs.declared.Cause.{Cause}
 use Rattle.rules.specs.declared.Cause.the-variants as cause
 use Rattle.rules.specs.declared.Verdict.{Verdict}
 use Rattle.rules.specs.declared.Verdict.the-variants.{Accepted, Rejected}

@@ -3,16 +3,16 @@
 --   completed-accepted    so the verdict is accepted
 --   complete-then-check   and no check can answer otherwise
 use mathlib.Core.Path.{_≡_, refl, sym, ap, _∙_}
-use mathlib.Core.List.{List, _++_}
+use mathlib.Core.List.{List}
 use Prim.Native.Nat.{ℕ, _+_, _-_, _*_, _≤_, _<_}
 use native.Mathlib.Decide.{decLt}
 use native.Mathlib.Omega.{arith}
-use mathlib.Core.Logic.{inl, inr, ⊎-elim}
+use mathlib.Core.Logic.{inr, ⊎-elim}
 use lib.ListN.{length, take, length-append}
 use lib.Seq.{length-take-le}
 use Rattle.rules.specs.Bits.{bit}
 use Rattle.rules.specs.Table.{fibre}
-use Rattle.rules.specs.Words.{fullWord, Parity}
+use Rattle.rules.specs.Words.{fullWord}
 use Rattle.rules.specs.Verdicts.{WordVerdict}
 use Rattle.rules.specs.Refusals.{SomeShortened, WordTold}
 use Rattle.rules.specs.Promises.{Completed, WordChecked}

@@ -4,8 +4,8 @@
 --                          a line word is accepted exactly when some 512 punctured bits complete it and its delimiter is the one given
 --   encode-then-check      what encode writes, the line check accepts with the same payload count and delimiter
 --   accepted-is-encoded    a line word that is accepted is the one that encode writes for its payload
-use mathlib.Core.Path.{_≡_, refl, sym, ap, _∙_}
-use mathlib.Core.Logic.{inl, inr, ⊎-elim}
+use mathlib.Core.Path.{_≡_, refl, sym, _∙_}
+use mathlib.Core.Logic.{inr, ⊎-elim}
 use mathlib.Core.List.{List}
 use Prim.Native.Nat.{ℕ, _+_, _-_, _*_, _≤_, _<_}
 use native.Mathlib.Decide.{decLt, ℕ-discrete}
@@ -13,11 +13,11 @@ use native.Mathlib.Omega.{arith}
 use lib.Dec.{lit<}
 use lib.ListN.{length, getD, take, drop, length-drop, List·getD-eq-default}
 use lib.Seq.{length-take-le, getD-take}
-use Rattle.rules.specs.Bits.{bit, Bytes, need, zeros, run, Written, UnusedSet}
+use Rattle.rules.specs.Bits.{bit, Bytes, need, zeros, run, UnusedSet}
 use Rattle.rules.specs.Matrix.{AllHold}
 use Rattle.rules.specs.Table.{fibre}
-use Rattle.rules.specs.Words.{padded, fullWord, Parity, tail, digit, lineWord, lineBits}
-use Rattle.rules.specs.Verdicts.{LineVerdict, TailVerdict, Nowhere, ParityDiffers, DelimiterDiffers}
+use Rattle.rules.specs.Words.{padded, fullWord, Parity, tail, lineWord}
+use Rattle.rules.specs.Verdicts.{LineVerdict}
 use Rattle.rules.specs.Refusals.{LineTold}
 use Rattle.rules.specs.Promises.{Encoded, LineChecked}
 use Rattle.rules.specs.declared.Answer.the-variants.{Done}
@@ -28,7 +28,7 @@ use Rattle.rules.proofs.Checks.{check-same}
 use Rattle.laws.proofs.Bits.{bit<, bit-take, bit-drop, bit-past, bits-same, pack, length-pack, bit-pack}
 use Rattle.laws.proofs.Runs.{run-low, run-high, run-each, run-same, run-below}
 use Rattle.laws.proofs.Passed.{encode-passed, line-passed}
-use Rattle.writing.proofs.Tail.{tail-low, tail-high}
+use Rattle.laws.proofs.Tails.{tail-low, tail-high}
 use Rattle.parity.proofs.Single.{parity-bits-one}
 use Rattle.theorems.specs.Punctured.{completed, Completes}
 use Rattle.theorems.proofs.Same.{line-check-same}

@@ -3,14 +3,14 @@
 --   complete-same, word-check-same, encode-same, line-check-same, piece-same, finish-same
 use mathlib.Core.Path.{_≡_, refl, sym, ap, ap₂, subst, _∙_}
 use mathlib.Core.List.{List, _++_}
-use Prim.Native.Nat.{ℕ, _+_, _-_, _*_, _≤_, _<_}
+use Prim.Native.Nat.{ℕ, _+_, _-_, _*_, _<_}
 use native.Mathlib.Decide.{decLt}
 use native.Mathlib.Omega.{arith}
-use lib.ListN.{length, getD, take, drop, length-drop}
-use lib.Seq.{getD-append-add, getD-drop}
-use Rattle.rules.specs.Bits.{bit, Bytes, need, run, zeros, Written}
+use lib.ListN.{length, take}
+use lib.Seq.{getD-append-add}
+use Rattle.rules.specs.Bits.{bit, Bytes, need, zeros, Written}
 use Rattle.rules.specs.Words.{padded, Parity, OwnChecks, tail, tailBits, lineWord, lineBits}
-use Rattle.rules.specs.Verdicts.{WordVerdict, LineVerdict, TailVerdict, Lowest, Nowhere, ParityDiffers, DelimiterDiffers}
+use Rattle.rules.specs.Verdicts.{WordVerdict, LineVerdict, TailVerdict, ParityDiffers}
 use Rattle.rules.specs.Streams.{fresh, Fed}
 use Rattle.rules.specs.Promises.{number, Completed, WordChecked, Encoded, LineChecked, PieceTaken, Finished}
 use Rattle.rules.specs.declared.Answer.{Answer}

@@ -6,28 +6,28 @@
 --   fresh-again     a finish that is done hands back a fresh stream
 --   second-refused  so that a second finish is refused by 1
 use mathlib.Core.Path.{_≡_, refl, sym, ap, subst, _∙_}
-use mathlib.Core.Logic.{inl, inr, ⊎-elim}
+use mathlib.Core.Logic.{inl, ⊎-elim}
 use mathlib.Core.List.{List}
-use Prim.Native.Nat.{ℕ, zero, suc, _+_, _-_, _*_, _%_, _≤_, _<_}
+use Prim.Native.Nat.{ℕ, zero, suc, _+_, _-_, _%_, _≤_, _<_}
 use native.Mathlib.Omega.{arith}
 use lib.Dec.{lit<, lit≤}
-use lib.ListN.{length, getD, replicate, length-replicate, getD-replicate}
-use Rattle.rules.specs.Bits.{bit, Bytes, zeros, run, placed, sum, Written, need}
+use lib.ListN.{length, getD, replicate, length-replicate}
+use Rattle.rules.specs.Bits.{bit, Bytes, zeros, run, placed, sum}
 use Rattle.rules.specs.Matrix.{check}
 use Rattle.rules.specs.Table.{fibre}
-use Rattle.rules.specs.Words.{padded, fullWord, Parity, OwnChecks, tail, lineWord, lineBits}
+use Rattle.rules.specs.Words.{padded, tail, lineWord}
 use Rattle.rules.specs.Streams.{fresh, Fed}
 use Rattle.rules.specs.Refusals.{PieceTold}
-use Rattle.rules.specs.Promises.{number, by, Encoded, PieceTaken, Finished}
+use Rattle.rules.specs.Promises.{number, by, Encoded, Finished}
 use Rattle.rules.specs.declared.Answer.{Answer}
 use Rattle.rules.specs.declared.Answer.the-variants.{Done, Refused}
 use Rattle.rules.specs.declared.Stream.{Stream}
 use Rattle.rules.specs.declared.Step.{Step}
 use Rattle.rules.proofs.Checks.{check-same, check-sum, check-zeros}
 use Rattle.laws.proofs.Bits.{bit<, bit-zeros, bits-same}
-use Rattle.laws.proofs.Runs.{run-low, run-high, run-each, run-same, run-below}
+use Rattle.laws.proofs.Runs.{run-low, run-high, run-each, run-below}
 use Rattle.laws.proofs.Passed.{piece-passed}
-use Rattle.parity.proofs.Single.{payload-own, payload-parity, own-bits-one}
+use Rattle.parity.proofs.Single.{payload-own, own-bits-one}
 use Rattle.theorems.proofs.Same.{stream-of, tail-bits}
 use Rattle.theorems.specs.Attempts.{taken, finished, Reached, begun, piece, finish}
 

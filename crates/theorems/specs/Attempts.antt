@@ -5,7 +5,6 @@
 --                      u is the bits accepted since the stream was last fresh, followed by zeros
 --
 -- Believe this file beside the paper; nothing here is proved.
-use mathlib.Core.Path.{_≡_}
 use mathlib.Core.List.{List}
 use Prim.Native.Nat.{ℕ}
 use Rattle.rules.specs.Bits.{bit, Bytes, zeros, run}

@@ -2,7 +2,6 @@
 --
 --   shortened-lowest, shortened-nowhere    the search of the shortened places
 --   fails-lowest, fails-nowhere            the scan of the checks
-use mathlib.Core.Path.{_≡_}
 use mathlib.Core.List.{List}
 use Prim.Native.Nat.{ℕ, _≤_, _<_}
 use native.Mathlib.Omega.{arith}

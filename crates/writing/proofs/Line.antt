@@ -5,7 +5,6 @@
 use mathlib.Core.Path.{_≡_, refl, sym, ap, _∙_}
 use mathlib.Core.List.{List, _++_}
 use Prim.Native.Nat.{ℕ, _+_, _-_, _*_, _%_, _≤_, _<_}
-use native.Mathlib.Nat.{mod-eq-of-lt}
 use native.Mathlib.Omega.{arith}
 use lib.Dec.{lit<}
 use lib.ListN.{length, drop, replicate, length-drop, length-append, length-replicate}
@@ -13,7 +12,7 @@ use lib.Seq.{getD-drop}
 use Rattle.rules.specs.Bits.{bit, Bytes, need, zeros, run, placed, Written}
 use Rattle.rules.specs.Words.{digit, tail, lineWord, lineBits}
 use Rattle.laws.proofs.Bits.{bit<, bit-drop, bit-cleared, bit-kept, bits-same}
-use Rattle.laws.proofs.Runs.{run-low, run-high, run-each, run-below, run-same, run-none, run-join, placed-same, placed-above}
+use Rattle.laws.proofs.Runs.{run-low, run-high, run-below, run-same, run-none, run-join, placed-same}
 use Rattle.bits.specs.Adds.{Adds}
 
 module _ (K : ℕ) (u : ℕ → ℕ) (p : List ℕ) (d : ℕ) (bits : (n : ℕ) → u n < 2) where

@@ -2,18 +2,18 @@
 --
 --   digitBytes d    the delimiter's two bytes, the low one first
 --   digits-right    their first ten bits are the delimiter's
---   tail-low, tail-high   a bit of the tail: of the parity, and of the delimiter
 --   tail-added      the sent parity and then the delimiter's bits, added one after the other, are the tail
-use mathlib.Core.Path.{_≡_, refl, sym, ap, _∙_}
+use mathlib.Core.Path.{_≡_, sym, _∙_}
 use mathlib.Core.Bool.{Bool}
 use mathlib.Core.List.{List, [], _∷_}
 use Prim.Native.Nat.{ℕ, _+_, _-_, _/_, _%_, _≤_, _<_}
 use native.Mathlib.Omega.{arith}
-use lib.Dec.{T, eqb, eqb→eq}
+use lib.Dec.{eqb, eqb→eq}
 use Rattle.rules.specs.Bits.{bit, zeros, run, placed}
 use Rattle.rules.specs.Words.{digit, tail}
 use Rattle.rules.proofs.Tests.{every, every-at}
 use Rattle.laws.proofs.Runs.{run-low, run-high, placed-join, placed-same}
+use Rattle.laws.proofs.Tails.{tail-low, tail-high}
 use Rattle.bits.specs.Adds.{Adds}
 use Rattle.bits.proofs.AddsLaws.{adds-then, adds-as}
 
@@ -29,14 +29,6 @@ digits-right d t hd ht =
     eqb→eq _ _ (every-at 10 (rightAt d) (every-at 1024 (λ d. every 10 (rightAt d)) tt d (omega arith)) t ht)
 
 module _ (p : List ℕ) (d : ℕ) where
-  pub tail-low : (t : ℕ) → t < 2560 → tail p d t ≡ bit p t
-  tail-low t h = run-low 2560 (bit p) (run 10 (digit d) zeros) t h
-
-  pub tail-high : (t : ℕ) → t < 10 → tail p d (2560 + t) ≡ digit d t
-  tail-high t h =
-      let e : 2560 + t - 2560 ≡ t = omega arith in
-      run-high 2560 (bit p) (run 10 (digit d) zeros) (2560 + t) (omega arith) ∙ rw e (run-low 10 (digit d) zeros t h)
-
   pub tail-added : {s t u : List ℕ} (at : ℕ) → d ≤ 1023 → Adds s t (placed at 2560 (λ k. bit p (0 + k)))
       → Adds t u (placed (at + 2560) 10 (λ k. bit (digitBytes d) (0 + k))) → Adds s u (placed at 2570 (tail p d))
   tail-added at h a b = adds-as same (adds-then a b)
@@ -46,7 +38,7 @@ module _ (p : List ℕ) (d : ℕ) where
           sym
           (placed-join at 2560 10 (tail p d) n
           ∙ rw (
-            placed-same at 2560 (tail p d) (λ k. bit p (0 + k)) (λ k l. let z : 0 + k ≡ k = omega arith in rw z (tail-low k l)) n,
+            placed-same at 2560 (tail p d) (λ k. bit p (0 + k)) (λ k l. let z : 0 + k ≡ k = omega arith in rw z (tail-low p d k l)) n,
             placed-same (at + 2560) 10 (λ k. tail p d (2560 + k)) (λ k. bit (digitBytes d) (0 + k))
-                (λ k l. let z : 0 + k ≡ k = omega arith in rw z (tail-high k l ∙ sym (digits-right d k h l))) n,
+                (λ k l. let z : 0 + k ≡ k = omega arith in rw z (tail-high p d k l ∙ sym (digits-right d k h l))) n,
           ))

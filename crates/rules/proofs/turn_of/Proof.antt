@@ -1,7 +1,7 @@
 -- `rules::turn_of` meets its contract: an entry below 0 is a zero block, and any other is its turn.
 use mathlib.Core.Path.{_≡_, refl}
 use mathlib.Core.Bool.{true, false}
-use Prim.Native.Nat.{ℕ, _^_, _<_}
+use Prim.Native.Nat.{ℕ}
 use native.Mathlib.Nat.{not-suc-le-zero, lt-trans}
 use native.Mathlib.Omega.{arith}
 use lib.Dec.{T, lit<}
@@ -9,7 +9,7 @@ use lib.IntN.{ℤ, pos, negsuc, natAbs}
 use lib.Signed.{ltZ, nonNeg}
 use mir.Facts.{toZ-ofZ}
 use mir.Syntax.{w16, w64}
-use mir.Val.{SFits, Fits, toZ, ofZ}
+use mir.Val.{SFits, Fits}
 use borrow.Author.Tests.{ltb-true}
 use Rattle.rules.specs.Terms.{turn}
 use Rattle.rules.proofs.turn_of.Statement.{statement}
