@@ -41,4 +41,5 @@ added-join h b m x bits p q = added-as (λ n l. omega (arith, placed-join h b m 
 
 pub added-same : (x : ℕ → ℕ) (s t u : List ℕ) → length s ≡ 384 → Bytes t → Bytes u → Added x s t → Added x s u → t ≡ u
 added-same x s t u l bt bu a b =
-    bits-same t u bt bu (a .length-same ∙ sym (b .length-same)) (λ n h. a .each n (omega (arith, a .length-same)) ∙ sym (b .each n (omega (arith, a .length-same))))
+    bits-same t u bt bu (a .length-same ∙ sym (b .length-same))
+    (λ n h. a .each n (omega (arith, a .length-same)) ∙ sym (b .each n (omega (arith, a .length-same))))

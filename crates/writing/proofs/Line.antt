@@ -48,7 +48,13 @@ module _ (K : ℕ) (u : ℕ → ℕ) (p : List ℕ) (d : ℕ) (bits : (n : ℕ) 
     past : (n : ℕ) → bit (drop k t) n ≡ bit (drop k s) n
     past n =
         bit-drop t k n
-        ∙ omega (arith, added (8 * k + n), ap (λ (l : List ℕ). bit l (8 * k + n)) cleared ∙ bit-kept s k (8 * k + n) (omega arith), bit< s (8 * k + n), run-high (K + 2570) (lineWord K u p d) zeros (8 * k + n) (omega arith))
+        ∙ omega (
+          arith,
+          added (8 * k + n),
+          ap (λ (l : List ℕ). bit l (8 * k + n)) cleared ∙ bit-kept s k (8 * k + n) (omega arith),
+          bit< s (8 * k + n),
+          run-high (K + 2570) (lineWord K u p d) zeros (8 * k + n) (omega arith),
+        )
         ∙ sym (bit-drop s k n)
 
     bytes-drop : (s : List ℕ) → Bytes s → Bytes (drop k s)

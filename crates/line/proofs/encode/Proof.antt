@@ -20,7 +20,9 @@ slice-aggregate-find-parity c = search needs
 find-parity-requires : tie.Need-find-parity-requires
 find-parity-requires c κs =
     let a = c .before .before .before .before .before .args in
-    let p = encode-passed (c .before .if1 .left) (a .count) (a .payload .now) (a .delimiter) (length (a .line .now)) (c .before .before .encode .ensures) in
+    let p =
+    encode-passed (c .before .if1 .left) (a .count) (a .payload .now) (a .delimiter) (length (a .line .now))
+    (c .before .before .encode .ensures) in
     (p .1, omega (arith, p .2), search needs)
 
 slice-aggregate-write : tie.Need-slice-aggregate-write
@@ -29,7 +31,9 @@ slice-aggregate-write c = search needs
 write-requires : tie.Need-write-requires
 write-requires c κs =
     let a = c .before .before .before .before .before .before .before .before .before .args in
-    let p = encode-passed (c .before .before .before .before .before .if1 .left) (a .count) (a .payload .now) (a .delimiter) (length (a .line .now)) (c .before .before .before .before .before .before .encode .ensures) in
+    let p =
+    encode-passed (c .before .before .before .before .before .if1 .left) (a .count) (a .payload .now) (a .delimiter)
+    (length (a .line .now)) (c .before .before .before .before .before .before .encode .ensures) in
     (p .1, omega (arith, p .2), search needs, p .4, p .5)
 
 same-length : tie.Need-same-length
@@ -41,7 +45,8 @@ returns-2 c =
     let q = c .before .before .before .before .before .before .find-parity in
     record {
       told =
-          subst (EncodeTold (a .count) (a .payload .now) (a .delimiter) (length (a .line .now))) (c .before .before .before .before .before .before .before .before .if1 .left)
+          subst (EncodeTold (a .count) (a .payload .now) (a .delimiter) (length (a .line .now)))
+          (c .before .before .before .before .before .before .before .before .if1 .left)
           (c .before .before .before .before .before .before .before .before .before .encode .ensures);
       line = (q .last .1 .1 .0, q .ensures, c .before .before .write .ensures);
     }

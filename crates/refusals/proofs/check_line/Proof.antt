@@ -13,27 +13,34 @@ bad-count-requires c κs = search needs
 
 returns : tie.Need-returns
 returns c =
-    told-first (c .before .bad-count .ensures) (c .if1 .taken)
+    let first = c .before in
+    told-first (first .bad-count .ensures) (c .if1 .taken)
 
 add-wrong-bytes : tie.Need-add-wrong-bytes
 add-wrong-bytes c =
-    omega (arith, good-count (c .before .before .before .args .count) (told-left (lit< tt) (c .if1 .left) (c .before .bad-count .ensures) .0) .1)
+    let a = c .before .before .before .args in
+    omega (arith, good-count (a .count) (told-left (lit< tt) (c .if1 .left) (c .before .bad-count .ensures) .0) .1)
 
 wrong-bytes-requires : tie.Need-wrong-bytes-requires
 wrong-bytes-requires c κs = search needs
 
 returns-2 : tie.Need-returns-2
 returns-2 c =
-    told-next (lit< tt) (c .before .before .before .bad-count .ensures) (c .before .before .if1 .left)
-    (told-first (c .before .wrong-bytes .ensures) (c .if2 .taken))
+    let second = c .before in
+    let passed1 = second .before in
+    let first = passed1 .before in
+    told-next (lit< tt) (first .bad-count .ensures) (passed1 .if1 .left)
+    (told-first (second .wrong-bytes .ensures) (c .if2 .taken))
 
 add-unused-set : tie.Need-add-unused-set
 add-unused-set c =
-    omega (arith, good-count (c .before .before .before .before .before .args .count) (told-left (lit< tt) (c .before .before .if1 .left) (c .before .before .before .bad-count .ensures) .0) .1)
+    let a = c .before .before .before .before .before .args in
+    omega (arith, good-count (a .count) (told-left (lit< tt) (c .before .before .if1 .left) (c .before .before .before .bad-count .ensures) .0) .1)
 
 unused-set-requires : tie.Need-unused-set-requires
 unused-set-requires c κs =
-    right-bytes (c .before .before .before .before .before .args .line .now) (need (c .before .before .before .before .before .args .count + 2570)) (told-left (lit< tt) (c .if2 .left) (c .before .wrong-bytes .ensures) .0)
+    let a = c .before .before .before .before .before .args in
+    right-bytes (a .line .now) (need (a .count + 2570)) (told-left (lit< tt) (c .if2 .left) (c .before .wrong-bytes .ensures) .0)
 
 bad-delimiter-requires : tie.Need-bad-delimiter-requires
 bad-delimiter-requires c κs = search needs
@@ -43,9 +50,16 @@ earlier-requires c κs = search needs
 
 returns-3 : tie.Need-returns-3
 returns-3 c =
-    told-next (lit< tt) (c .before .before .before .before .before .before .bad-count .ensures) (c .before .before .before .before .before .if1 .left)
-    (told-next (lit< tt) (c .before .before .before .before .wrong-bytes .ensures) (c .before .before .before .if2 .left)
-    (told-before (lit< tt) (c .before .before .unused-set .ensures) (c .earlier .ensures) (λ e. rw e (c .before .bad-delimiter .ensures))))
+    let fourth = c .before in
+    let third = fourth .before in
+    let passed2 = third .before in
+    let second = passed2 .before in
+    let passed1 = second .before in
+    let first = passed1 .before in
+    told-next (lit< tt) (first .bad-count .ensures) (passed1 .if1 .left)
+    (told-next (lit< tt) (second .wrong-bytes .ensures) (passed2 .if2 .left)
+    (told-before (lit< tt) (third .unused-set .ensures) (c .earlier .ensures) (λ e. rw e
+    (fourth .bad-delimiter .ensures))))
 
 pub check-line-spec : {M : Type 1} → statement M
 check-line-spec =

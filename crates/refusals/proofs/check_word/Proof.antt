@@ -16,7 +16,10 @@ earlier-requires c κs = search needs
 
 returns : tie.Need-returns
 returns c =
-    told-before (lit< tt) (c .before .before .bad-count .ensures) (c .earlier .ensures) (λ e. rw e (c .before .wrong-bytes .ensures))
+    let second = c .before in
+    let first = second .before in
+    told-before (lit< tt) (first .bad-count .ensures) (c .earlier .ensures) (λ e. rw e
+    (second .wrong-bytes .ensures))
 
 pub check-word-spec : {M : Type 1} → statement M
 check-word-spec =

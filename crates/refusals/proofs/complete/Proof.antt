@@ -22,9 +22,13 @@ earlier-requires-2 c κs = search needs
 
 returns : tie.Need-returns
 returns c =
-    told-before (lit< tt) (c .before .before .before .before .bad-count .ensures) (c .earlier2 .ensures)
-    (λ e. rw e
-    (told-before (lit< tt) (c .before .before .before .wrong-bytes .ensures) (c .before .earlier .ensures) (λ e. rw e (c .before .before .shortened-set .ensures))))
+    let told1 = c .before in
+    let eighth = told1 .before in
+    let second = eighth .before in
+    let first = second .before in
+    told-before (lit< tt) (first .bad-count .ensures) (c .earlier2 .ensures) (λ e. rw e
+    (told-before (lit< tt) (second .wrong-bytes .ensures) (told1 .earlier .ensures) (λ e. rw e
+    (eighth .shortened-set .ensures))))
 
 pub complete-spec : {M : Type 1} → statement M
 complete-spec =

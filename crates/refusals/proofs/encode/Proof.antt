@@ -12,26 +12,32 @@ bad-count-requires c κs = search needs
 
 returns : tie.Need-returns
 returns c =
-    told-first (c .before .bad-count .ensures) (c .if1 .taken)
+    let first = c .before in
+    told-first (first .bad-count .ensures) (c .if1 .taken)
 
 wrong-bytes-requires : tie.Need-wrong-bytes-requires
 wrong-bytes-requires c κs = search needs
 
 returns-2 : tie.Need-returns-2
 returns-2 c =
-    told-next (lit< tt) (c .before .before .before .bad-count .ensures) (c .before .before .if1 .left)
-    (told-first (c .before .wrong-bytes .ensures) (c .if2 .taken))
+    let second = c .before in
+    let passed1 = second .before in
+    let first = passed1 .before in
+    told-next (lit< tt) (first .bad-count .ensures) (passed1 .if1 .left)
+    (told-first (second .wrong-bytes .ensures) (c .if2 .taken))
 
 unused-set-requires : tie.Need-unused-set-requires
 unused-set-requires c κs =
-    right-bytes (c .before .before .before .before .before .args .payload .now) (need (c .before .before .before .before .before .args .count)) (told-left (lit< tt) (c .if2 .left) (c .before .wrong-bytes .ensures) .0)
+    let a = c .before .before .before .before .before .args in
+    right-bytes (a .payload .now) (need (a .count)) (told-left (lit< tt) (c .if2 .left) (c .before .wrong-bytes .ensures) .0)
 
 bad-delimiter-requires : tie.Need-bad-delimiter-requires
 bad-delimiter-requires c κs = search needs
 
 add-no-room : tie.Need-add-no-room
 add-no-room c =
-    omega (arith, good-count (c .before .before .before .before .before .before .before .args .count) (told-left (lit< tt) (c .before .before .before .before .if1 .left) (c .before .before .before .before .before .bad-count .ensures) .0) .1)
+    let a = c .before .before .before .before .before .before .before .args in
+    omega (arith, good-count (a .count) (told-left (lit< tt) (c .before .before .before .before .if1 .left) (c .before .before .before .before .before .bad-count .ensures) .0) .1)
 
 no-room-requires : tie.Need-no-room-requires
 no-room-requires c κs = search needs
@@ -44,11 +50,19 @@ earlier-requires-2 c κs = search needs
 
 returns-3 : tie.Need-returns-3
 returns-3 c =
-    told-next (lit< tt) (c .before .before .before .before .before .before .before .before .bad-count .ensures) (c .before .before .before .before .before .before .before .if1 .left)
-    (told-next (lit< tt) (c .before .before .before .before .before .before .wrong-bytes .ensures) (c .before .before .before .before .before .if2 .left)
-    (told-before (lit< tt) (c .before .before .before .before .unused-set .ensures) (c .earlier2 .ensures)
-    (λ e. rw e
-    (told-before (lit< tt) (c .before .before .before .bad-delimiter .ensures) (c .before .earlier .ensures) (λ e. rw e (c .before .before .no-room .ensures))))))
+    let told1 = c .before in
+    let fifth = told1 .before in
+    let fourth = fifth .before in
+    let third = fourth .before in
+    let passed2 = third .before in
+    let second = passed2 .before in
+    let passed1 = second .before in
+    let first = passed1 .before in
+    told-next (lit< tt) (first .bad-count .ensures) (passed1 .if1 .left)
+    (told-next (lit< tt) (second .wrong-bytes .ensures) (passed2 .if2 .left)
+    (told-before (lit< tt) (third .unused-set .ensures) (c .earlier2 .ensures) (λ e. rw e
+    (told-before (lit< tt) (fourth .bad-delimiter .ensures) (told1 .earlier .ensures) (λ e. rw e
+    (fifth .no-room .ensures))))))
 
 pub encode-spec : {M : Type 1} → statement M
 encode-spec =

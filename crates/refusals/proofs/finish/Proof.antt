@@ -28,11 +28,16 @@ earlier-requires-3 c κs = search needs
 
 returns : tie.Need-returns
 returns c =
-    told-before (lit< tt) (c .before .before .before .before .before .before .too-many .ensures) (c .earlier3 .ensures)
-    (λ e. rw e
-    (told-before (lit< tt) (c .before .before .before .before .before .bad-count .ensures) (c .before .earlier2 .ensures)
-    (λ e. rw e
-    (told-before (lit< tt) (c .before .before .before .before .bad-delimiter .ensures) (c .before .before .earlier .ensures) (λ e. rw e (c .before .before .before .no-room .ensures))))))
+    let told2 = c .before in
+    let told1 = told2 .before in
+    let fifth = told1 .before in
+    let fourth = fifth .before in
+    let first = fourth .before in
+    let seventh = first .before in
+    told-before (lit< tt) (seventh .too-many .ensures) (c .earlier3 .ensures) (λ e. rw e
+    (told-before (lit< tt) (first .bad-count .ensures) (told2 .earlier2 .ensures) (λ e. rw e
+    (told-before (lit< tt) (fourth .bad-delimiter .ensures) (told1 .earlier .ensures) (λ e. rw e
+    (fifth .no-room .ensures))))))
 
 pub finish-spec : {M : Type 1} → statement M
 finish-spec =

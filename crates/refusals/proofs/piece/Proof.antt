@@ -12,19 +12,24 @@ too-many-requires c κs = search needs
 
 returns : tie.Need-returns
 returns c =
-    told-first (c .before .too-many .ensures) (c .if1 .taken)
+    let seventh = c .before in
+    told-first (seventh .too-many .ensures) (c .if1 .taken)
 
 wrong-bytes-requires : tie.Need-wrong-bytes-requires
 wrong-bytes-requires c κs = search needs
 
 returns-2 : tie.Need-returns-2
 returns-2 c =
-    told-next (lit< tt) (c .before .before .before .too-many .ensures) (c .before .before .if1 .left)
-    (told-first (c .before .wrong-bytes .ensures) (c .if2 .taken))
+    let second = c .before in
+    let passed1 = second .before in
+    let seventh = passed1 .before in
+    told-next (lit< tt) (seventh .too-many .ensures) (passed1 .if1 .left)
+    (told-first (second .wrong-bytes .ensures) (c .if2 .taken))
 
 unused-set-requires : tie.Need-unused-set-requires
 unused-set-requires c κs =
-    right-bytes (c .before .before .before .before .before .args .bytes .now) (need (c .before .before .before .before .before .args .count)) (told-left (lit< tt) (c .if2 .left) (c .before .wrong-bytes .ensures) .0)
+    let a = c .before .before .before .before .before .args in
+    right-bytes (a .bytes .now) (need (a .count)) (told-left (lit< tt) (c .if2 .left) (c .before .wrong-bytes .ensures) .0)
 
 too-many-with-requires : tie.Need-too-many-with-requires
 too-many-with-requires c κs =
@@ -35,9 +40,16 @@ earlier-requires c κs = search needs
 
 returns-3 : tie.Need-returns-3
 returns-3 c =
-    told-next (lit< tt) (c .before .before .before .before .before .before .too-many .ensures) (c .before .before .before .before .before .if1 .left)
-    (told-next (lit< tt) (c .before .before .before .before .wrong-bytes .ensures) (c .before .before .before .if2 .left)
-    (told-before (lit< tt) (c .before .before .unused-set .ensures) (c .earlier .ensures) (λ e. rw e (c .before .too-many-with .ensures))))
+    let sixth = c .before in
+    let third = sixth .before in
+    let passed2 = third .before in
+    let second = passed2 .before in
+    let passed1 = second .before in
+    let seventh = passed1 .before in
+    told-next (lit< tt) (seventh .too-many .ensures) (passed1 .if1 .left)
+    (told-next (lit< tt) (second .wrong-bytes .ensures) (passed2 .if2 .left)
+    (told-before (lit< tt) (third .unused-set .ensures) (c .earlier .ensures) (λ e. rw e
+    (sixth .too-many-with .ensures))))
 
 pub piece-spec : {M : Type 1} → statement M
 piece-spec =

@@ -34,7 +34,9 @@ slice-aggregate-write-2 c = search needs
 write-requires : tie.Need-write-requires
 write-requires c κs =
     let a = c .before .before .before .before .before .before .before .before .before .before .before .args in
-    let p = finish-passed (c .before .before .before .before .before .before .before .before .if1 .left) (a .stream .held) (a .delimiter) (length (a .line .now)) (c .before .before .before .before .before .before .before .before .before .finish .ensures) in
+    let p =
+    finish-passed (c .before .before .before .before .before .before .before .before .if1 .left) (a .stream .held) (a .delimiter)
+    (length (a .line .now)) (c .before .before .before .before .before .before .before .before .before .finish .ensures) in
     (lit≤ tt, omega arith, search needs, p .2, p .3)
 
 begin-requires : tie.Need-begin-requires
@@ -45,12 +47,15 @@ same-length c = search needs
 
 returns-2 : tie.Need-returns-2
 returns-2 c =
-    let a = c .before .before .before .before .before .before .before .before .before .before .before .before .before .before .before .args in
+    let a =
+    c .before .before .before .before .before .before .before .before .before .before .before .before .before .before .before .args in
     let w = c .before .before .before .write in
     let p = c .before .before .before .before .before .before .before .before .solve in
     record {
       told =
-          subst (FinishTold (a .stream .held) (a .delimiter) (length (a .line .now))) (c .before .before .before .before .before .before .before .before .before .before .before .before .if1 .left) (c .before .before .before .before .before .before .before .before .before .before .before .before .before .finish .ensures);
+          subst (FinishTold (a .stream .held) (a .delimiter) (length (a .line .now)))
+          (c .before .before .before .before .before .before .before .before .before .before .before .before .if1 .left)
+          (c .before .before .before .before .before .before .before .before .before .before .before .before .before .finish .ensures);
       effect = (c .begin .ensures, p .last .1 .0, p .ensures, tail-written _ (p .last .1 .0) (a .delimiter) (a .line .now) (w .last .0) (w .ensures));
     }
 

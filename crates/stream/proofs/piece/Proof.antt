@@ -19,20 +19,25 @@ slice-aggregate-add-piece c = search needs
 add-piece-requires : tie.Need-add-piece-requires
 add-piece-requires c κs =
     let a = c .before .before .before .before .before .args in
-    let p = piece-passed (c .before .before .if1 .left) (a .stream .held) (a .count) (a .bytes .now) (c .before .before .before .piece .ensures) in
+    let p =
+    piece-passed (c .before .before .if1 .left) (a .stream .held) (a .count) (a .bytes .now)
+    (c .before .before .before .piece .ensures) in
     (search needs, omega (arith, p .2), omega (arith, p .0))
 
 add-t13 : tie.Need-add-t13
 add-t13 c =
     let a = c .before .before .before .before .before .before .before .args in
-    let p = piece-passed (c .before .before .before .before .if1 .left) (a .stream .held) (a .count) (a .bytes .now) (c .before .before .before .before .before .piece .ensures) in
+    let p =
+    piece-passed (c .before .before .before .before .if1 .left) (a .stream .held) (a .count) (a .bytes .now)
+    (c .before .before .before .before .before .piece .ensures) in
     omega (arith, p .2)
 
 returns-2 : tie.Need-returns-2
 returns-2 c =
     let a = c .before .before .before .before .before .before .before .args in
     record {
-      told = subst (PieceTold (a .stream .held) (a .count) (a .bytes .now)) (c .before .before .before .before .if1 .left) (c .before .before .before .before .before .piece .ensures);
+      told = subst (PieceTold (a .stream .held) (a .count) (a .bytes .now)) (c .before .before .before .before .if1 .left)
+          (c .before .before .before .before .before .piece .ensures);
       stream = record { held = refl; checks = c .before .add-piece .ensures };
     }
 

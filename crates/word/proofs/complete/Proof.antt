@@ -36,13 +36,17 @@ slice-aggregate-solve c = search needs
 sub-solve : tie.Need-sub-solve
 sub-solve c =
     let a = c .before .before .before .before .before .before .before .before .before .args in
-    let p = complete-passed (c .before .before .before .before .before .if1 .left) (a .count) (a .word .now) (c .before .before .before .before .before .before .complete .ensures) in
+    let p =
+    complete-passed (c .before .before .before .before .before .if1 .left) (a .count) (a .word .now)
+    (c .before .before .before .before .before .before .complete .ensures) in
     omega (arith, p .2)
 
 part-solve-start : tie.Need-part-solve-start
 part-solve-start c =
     let a = c .before .before .before .before .before .before .before .before .before .args in
-    let p = complete-passed (c .before .before .before .before .before .if1 .left) (a .count) (a .word .now) (c .before .before .before .before .before .before .complete .ensures) in
+    let p =
+    complete-passed (c .before .before .before .before .before .if1 .left) (a .count) (a .word .now)
+    (c .before .before .before .before .before .before .complete .ensures) in
     omega (arith, p .2)
 
 part-solve-end : tie.Need-part-solve-end
@@ -51,7 +55,9 @@ part-solve-end c = search needs
 solve-requires : tie.Need-solve-requires
 solve-requires c κs =
     let a = c .before .before .before .before .before .before .before .before .before .before .args in
-    let p = complete-passed (c .before .before .before .before .before .before .if1 .left) (a .count) (a .word .now) (c .before .before .before .before .before .before .before .complete .ensures) in
+    let p =
+    complete-passed (c .before .before .before .before .before .before .if1 .left) (a .count) (a .word .now)
+    (c .before .before .before .before .before .before .before .complete .ensures) in
     (search needs, simp (length-take, length-drop) (omega (arith, p .2)))
 
 same-length-2 : tie.Need-same-length-2
@@ -64,7 +70,8 @@ returns-2 c =
     let s = c .before .before .before .before .before .before .add-blocks in
     let p = c .before .before .solve in
     record {
-      told = subst (CompleteTold (a .count) w) (c .before .before .before .before .before .before .before .before .before .if1 .left) (c .before .before .before .before .before .before .before .before .before .before .complete .ensures);
+      told = subst (CompleteTold (a .count) w) (c .before .before .before .before .before .before .before .before .before .if1 .left)
+          (c .before .before .before .before .before .before .before .before .before .before .complete .ensures);
       word = (
         p .last .1 .0,
         payload-found (bit w) _ (s .last .0) (p .last .1 .0) (s .ensures) (λ n l. payload-blocks w n) (p .ensures),

@@ -31,7 +31,8 @@ same-length c = search needs
 
 returns : tie.Need-returns
 returns c =
-    let s = c .before .before .before .before .before .before .before .before .before .before .before .before .before .before .before .before in
+    let s =
+    c .before .before .before .before .before .before .before .before .before .before .before .before .before .before .before .before in
     let a = s .args in
     let k = c .before .before .before .before .before .before .before .before .before .before .before .needed in
     let l = c .before .before .before .before .before .before .before .before .before .before .clear in
