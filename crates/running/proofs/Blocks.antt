@@ -1,7 +1,7 @@
 -- Laws of blocks of a word that reach the running checks.
 --
 --   taken-none     a zero block takes nothing
---   taken-turned   any other takes the block's 32 bytes, turned
+--   taken-turned   any other takes the block, turned
 --   column w j     what block column j adds to each check of the word w
 --   adds-taken     one more entry of a line
 --   added-block    all twelve entries add the block
@@ -13,7 +13,7 @@ use mathlib.Core.List.{List}
 use Prim.Native.Nat.{ℕ, _+_, _-_, _*_, _%_, _≤_, _<_}
 use native.Mathlib.Omega.{arith}
 use lib.Dec.{lit<}
-use lib.ListN.{take, drop, replicate}
+use lib.ListN.{replicate}
 use Rattle.rules.specs.Bits.{bit, zeros, run, placed}
 use Rattle.rules.specs.Matrix.{entry}
 use Rattle.rules.specs.Table.{fibre}
@@ -21,14 +21,13 @@ use Rattle.rules.specs.Terms.{spot, turn, term}
 use Rattle.rules.specs.Streams.{Added}
 use Rattle.rules.proofs.Checks.{block-of, local-of}
 use Rattle.rules.proofs.TableLaws.{entry-range}
-use Rattle.laws.proofs.Bits.{bit<, bit-part, bit-zeros}
+use Rattle.laws.proofs.Bits.{bit<, bit-zeros}
 use Rattle.laws.proofs.Runs.{run-low, run-join, placed-below, placed-above, placed-each, placed-bits}
 use Rattle.laws.proofs.Runs.{placed-none, placed-same, placed-whole}
 use Rattle.laws.proofs.Columns.{turn-none, turn-some, check-column}
 use Rattle.laws.proofs.Running.{added-none, added-as, added-join}
 use Rattle.bits.specs.Adds.{Adds}
 use Rattle.bits.proofs.AddsLaws.{adds-then, adds-as}
-use Rattle.turning.specs.Turning.{turned}
 use Rattle.running.specs.Running.{blocks, taken}
 
 module _ (w : List ℕ) (i j : ℕ) where
@@ -36,20 +35,9 @@ module _ (w : List ℕ) (i j : ℕ) where
   taken-none h n =
       placed-each (256 * i) 256 _ n (λ v. v ≡ 0) (λ l. refl) (λ l k. turn-none (entry fibre i j) _ _ (entry-range i j) h) (λ l. refl)
 
-  pub taken-turned : (k l a : ℕ) → k ≡ 32 → l ≡ 32 → a ≡ turn (entry fibre i j) → a < 256 → (n : ℕ)
-      → placed (8 * (32 * i)) (8 * k) (run 256 (turned 256 (take l (drop (32 * j) w)) a) zeros) n ≡ taken w i j n
-  taken-turned k l a ek el ea h n =
-      let p : 8 * (32 * i) ≡ 256 * i = omega arith in
-      let q : 8 * k ≡ 256 = omega arith in
-      rw (p, q) (placed-same (256 * i) 256 _ _ row n)
-    where
-      row : (r : ℕ) → r < 256
-          → run 256 (turned 256 (take l (drop (32 * j) w)) a) zeros r ≡ spot 256 (entry fibre i j) (λ t. bit w (256 * j + t)) r
-      row r b =
-          let e : 8 * (32 * j) ≡ 256 * j = omega arith in
-          run-low 256 _ zeros r b
-          ∙ bit-part w (32 * j) l ((r + a) % 256) (omega arith)
-          ∙ rw (e, ea) (sym (turn-some (entry fibre i j) _ r (omega arith)))
+  pub taken-turned : (a : ℕ) → a ≡ turn (entry fibre i j) → a < 256 → (n : ℕ)
+      → placed (256 * i) 256 (λ t. bit w (256 * j + (t + a) % 256)) n ≡ taken w i j n
+  taken-turned a e h = placed-same (256 * i) 256 _ _ (λ r b. rw e (sym (turn-some (entry fibre i j) _ r (omega arith))))
 
 abbrev pub column : List ℕ → ℕ → ℕ → ℕ
 column w j n = term fibre n (bit w) j

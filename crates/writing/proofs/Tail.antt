@@ -6,13 +6,13 @@
 use mathlib.Core.Path.{_≡_, sym, _∙_}
 use mathlib.Core.Bool.{Bool}
 use mathlib.Core.List.{List, [], _∷_}
-use Prim.Native.Nat.{ℕ, _+_, _-_, _/_, _%_, _≤_, _<_}
+use Prim.Native.Nat.{ℕ, _+_, _/_, _%_, _≤_, _<_}
 use native.Mathlib.Omega.{arith}
 use lib.Dec.{eqb, eqb→eq}
-use Rattle.rules.specs.Bits.{bit, zeros, run, placed}
+use Rattle.rules.specs.Bits.{bit, placed}
 use Rattle.rules.specs.Words.{digit, tail}
 use Rattle.rules.proofs.Tests.{every, every-at}
-use Rattle.laws.proofs.Runs.{run-low, run-high, placed-join, placed-same}
+use Rattle.laws.proofs.Runs.{placed-join, placed-same}
 use Rattle.laws.proofs.Tails.{tail-low, tail-high}
 use Rattle.bits.specs.Adds.{Adds}
 use Rattle.bits.proofs.AddsLaws.{adds-then, adds-as}

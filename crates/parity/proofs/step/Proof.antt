@@ -1,34 +1,11 @@
 -- `parity::step` meets its contract: what is added to a part of the registers is added at that part's places.
 use borrow.Author.Needs.{needs}
-use mathlib.Core.Path.{_≡_, ap, _∙_}
-use mathlib.Core.List.{List}
-use Prim.Native.Nat.{ℕ, _+_, _-_, _*_, _%_, _<_}
+use mathlib.Core.Path.{_≡_}
+use Prim.Native.Nat.{_+_, _-_, _*_}
 use native.Mathlib.Omega.{arith}
-use lib.ListN.{length, take, drop}
-use Rattle.rules.specs.Bits.{bit, zeros, run, placed}
-use Rattle.laws.proofs.Bits.{mid, bit-part}
-use Rattle.laws.proofs.Runs.{run-low, placed-same}
-use Rattle.bits.specs.Adds.{Adds}
-use Rattle.bits.proofs.AddsLaws.{adds-as, adds-mid}
-use Rattle.turning.specs.Turning.{turned}
-use Rattle.parity.specs.Registers.{addend}
+use Rattle.turning.proofs.Parts.{part-turned}
 use Rattle.parity.proofs.step.Statement.{statement}
 use Rattle.parity.proofs.step.Tie as tie
-
--- register s of x, turned by a, added to the bytes of register d
-register-added : (x p : List ℕ) (d s a : ℕ) → length x ≡ 1984 → d < 62
-    → Adds (take 32 (drop (32 * d) x)) p (run 256 (turned 256 (take 32 (drop (32 * s) x)) a) zeros)
-    → Adds x (mid (32 * d) 32 x p) (addend x d s a)
-register-added x p d s a long hd q = adds-as places (adds-mid x p (32 * d) 32 _ (omega arith) q)
-  where
-    places : (n : ℕ) → placed (8 * (32 * d)) 256 (run 256 (turned 256 (take 32 (drop (32 * s) x)) a) zeros) n ≡ addend x d s a n
-    places n =
-        let e : 8 * (32 * d) ≡ 256 * d = omega arith in
-        rw e
-        (placed-same (256 * d) 256 _ _ (λ t h.
-        run-low 256 _ zeros t h
-        ∙ bit-part x (32 * s) 32 ((t + a) % 256) (omega arith)
-        ∙ ap (bit x) (omega arith)) n)
 
 slice-aggregate-copy : tie.Need-slice-aggregate-copy
 slice-aggregate-copy c = search needs
@@ -89,7 +66,7 @@ returns c =
     let to : 32 * a .target + 32 - 32 * a .target ≡ 32 = omega arith in
     let from : 32 * a .source + 32 - 32 * a .source ≡ 32 = omega arith in
     rw to
-    (register-added (a .registers .now) (added .last .0) (a .target) (a .source) (a .turn) (omega arith) (omega arith)
+    (part-turned (a .registers .now) (a .registers .now) (added .last .0) (a .target) (a .source) (a .turn) (omega arith)
     (rw (to, copied .ensures, from) at (added .ensures)))
 
 pub step-spec : {M : Type 1} → statement M

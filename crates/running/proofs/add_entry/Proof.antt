@@ -1,10 +1,12 @@
 -- `running::add_entry` meets its contract: a zero block takes nothing, and any other is added, turned, to the part of its row.
 use borrow.Author.Needs.{needs}
+use mathlib.Core.Path.{_≡_}
 use Prim.Native.Nat.{_+_, _-_, _*_}
 use native.Mathlib.Omega.{arith}
 use Rattle.laws.proofs.Columns.{turn-told}
-use Rattle.bits.proofs.AddsLaws.{adds-none, adds-as, adds-mid}
+use Rattle.bits.proofs.AddsLaws.{adds-none, adds-as}
 use Rattle.running.proofs.Blocks.{taken-none, taken-turned}
+use Rattle.turning.proofs.Parts.{part-turned}
 use Rattle.running.proofs.add_entry.Statement.{statement}
 use Rattle.running.proofs.add_entry.Tie as tie
 
@@ -61,10 +63,10 @@ returns-2 c =
     let start = told .before .before .before in
     let a = start .args in
     let t = turn-told (start .fits .a) (start .pre .4) (told .turn-of .ensures) in
-    let k = 32 * a .i + 32 - 32 * a .i in
-    let l = 32 * a .j + 32 - 32 * a .j in
-    adds-as (taken-turned (a .word .now) (a .i) (a .j) k l _ (omega arith) (omega arith) t (omega arith))
-    (adds-mid (a .checks .now) (added .last .0) (32 * a .i) k _ (omega arith) (added .ensures))
+    let to : 32 * a .i + 32 - 32 * a .i ≡ 32 = omega arith in
+    let from : 32 * a .j + 32 - 32 * a .j ≡ 32 = omega arith in
+    adds-as (taken-turned (a .word .now) (a .i) (a .j) _ t (omega arith))
+    (rw to (part-turned (a .checks .now) (a .word .now) (added .last .0) (a .i) (a .j) _ (omega arith) (rw (to, from) at (added .ensures))))
 
 pub add-entry-spec : {M : Type 1} → statement M
 add-entry-spec =
