@@ -1,5 +1,6 @@
 // Bits in bytes: read, added, moved in runs, cleared, copied and searched.
 // Bit n is in byte n / 8, with weight 2 to the power n mod 8. A slice may have more bits than a usize can count.
+// Its functions serve the crates above, which show what they require; no user calls them.
 ghost use mathlib.Core.Path.{_≡_};
 ghost use mathlib.Core.List.{_++_};
 ghost use Prim.Native.Nat.{_+_, _*_, _/_, _%_, _^_, _≤_, _<_};

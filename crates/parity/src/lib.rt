@@ -1,4 +1,5 @@
 // Parity: finds the one whose own checks are given, by a recipe.
+// Its functions serve the crates above, which show what they require; no user calls them.
 ghost use mathlib.Core.Path.{_≡_};
 ghost use Prim.Native.Nat.{ℕ, _≤_, _<_};
 ghost use lib.ListN.{length, take, drop};

@@ -117,7 +117,7 @@ pub const TABLE: [[i16; 12]; 69] = [
     [27, -1, 42, 234, 228, 241, 94, 192, 0, 215, 109, 88],
 ];
 
-// The entry of block row i, block column j, both counted from 0.
+// The entry of block row i, block column j, both counted from 0. For crates above, which show that both are in range.
 pub fn entry_at(i: usize, j: usize) -> i16
     requires { ⌜ (i < 12) × (j < 69) ⌝ }
     ensures { λ r. ⌜ r ≡ entry fibre i j ⌝ }

@@ -1,4 +1,5 @@
 // Adds turned blocks: the one way in which bits reach the checks.
+// Its functions serve the crates above, which show what they require; no user calls them.
 ghost use mathlib.Core.Path.{_≡_};
 ghost use Prim.Native.Nat.{_<_};
 ghost use lib.ListN.{length};

@@ -1,5 +1,6 @@
 // Writes a line word: the payload's bits, the sent parity and the delimiter, one run after another with no padding.
 // With no payload bits it writes the tail alone, which is what a stream's finish writes.
+// Its functions serve the crates above, which show what they require; no user calls them.
 ghost use mathlib.Core.Path.{_≡_};
 ghost use Prim.Native.Nat.{_+_, _*_, _≤_};
 ghost use lib.ListN.{length};
