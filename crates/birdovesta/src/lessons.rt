@@ -1,0 +1,261 @@
+// The lesson sheet of paper 01, run through the libraries. What a lesson expects is the sheet's.
+use crate::say;
+use crate::tally;
+use crate::tally::Tally;
+use rules::Answer;
+use rules::Cause;
+use rules::Judgement;
+use rules::Stream;
+use rules::Verdict;
+
+fn is_done(answer: Answer) -> bool {
+    match answer {
+        Answer::Done => true,
+        Answer::Refused(_) => false,
+    }
+}
+
+fn is_refused(answer: Answer, number: usize) -> bool {
+    match answer {
+        Answer::Done => false,
+        Answer::Refused(told) => told == number,
+    }
+}
+
+fn is_accepted(judgement: Judgement) -> bool {
+    let Judgement::Judged(verdict) = judgement else {
+        return false;
+    };
+    match verdict {
+        Verdict::Accepted => true,
+        Verdict::Rejected(_) => false,
+    }
+}
+
+fn is_shortened(judgement: Judgement, place: usize) -> bool {
+    let Judgement::Judged(verdict) = judgement else {
+        return false;
+    };
+    let Verdict::Rejected(cause) = verdict else {
+        return false;
+    };
+    let Cause::Shortened(told) = cause else {
+        return false;
+    };
+    told == place
+}
+
+fn is_check(judgement: Judgement, row: usize) -> bool {
+    let Judgement::Judged(verdict) = judgement else {
+        return false;
+    };
+    let Verdict::Rejected(cause) = verdict else {
+        return false;
+    };
+    let Cause::Check(told) = cause else {
+        return false;
+    };
+    told == row
+}
+
+fn is_judged_refused(judgement: Judgement, number: usize) -> bool {
+    match judgement {
+        Judgement::Judged(_) => false,
+        Judgement::Refused(told) => told == number,
+    }
+}
+
+// Sets the bit at a place that the bytes have.
+fn set(bytes: &mut [u8], place: usize) {
+    if place / 8 < bytes.len() {
+        bits::add_bit(bytes, place, 1);
+    }
+}
+
+fn set_all(bytes: &mut [u8], places: &[usize]) {
+    for i in 0..places.len() {
+        set(bytes, places[i]);
+    }
+}
+
+// A payload place is in these checks, and in no other: they are the running checks of a payload with that bit alone.
+fn payload_place(place: usize, rows: &[usize]) -> bool {
+    let mut payload = [0u8; 1799];
+    set(&mut payload, place);
+    let step = stream::piece(stream::begin(), 14392, &payload);
+    let answer = step.answer;
+    if !is_done(answer) {
+        return false;
+    }
+    let later = step.stream;
+    let checks = later.checks;
+    let mut expected = [0u8; 384];
+    set_all(&mut expected, rows);
+    check::same(&checks, &expected)
+}
+
+// A sent parity place is in these checks, and in no other: of running checks with these rows alone, it is the sent parity.
+fn parity_place(place: usize, rows: &[usize]) -> bool {
+    let mut checks = [0u8; 384];
+    set_all(&mut checks, rows);
+    let held = Stream {
+        held: 1,
+        checks: checks,
+    };
+    let mut tail = [255u8; 322];
+    let step = stream::finish(held, 0, &mut tail);
+    let answer = step.answer;
+    if !is_done(answer) {
+        return false;
+    }
+    let mut expected = [0u8; 322];
+    set(&mut expected, place);
+    check::same(&tail, &expected)
+}
+
+// What the check of a full word answers where it has only the bit at a place.
+fn only(place: usize, count: usize) -> Judgement {
+    let mut word = [0u8; 2208];
+    set(&mut word, place);
+    word::check(count, &word)
+}
+
+fn all_zero() -> bool {
+    let word = [0u8; 2208];
+    is_accepted(word::check(1, &word))
+}
+
+// K 1, payload byte 0, delimiter 1,023: 320 bytes of 00, then FE 07.
+fn least_payload() -> bool {
+    let mut line = [255u8; 322];
+    let answer = line::encode(1, &[0u8], 1023, &mut line);
+    if !is_done(answer) {
+        return false;
+    }
+    let mut expected = [0u8; 322];
+    expected[320] = 0xFE;
+    expected[321] = 0x07;
+    check::same(&line, &expected)
+}
+
+// Every operation that takes a K refuses this one by 1.
+fn bad_count(count: usize) -> bool {
+    let bytes = [0u8; 1800];
+    let mut line = [0u8; 2122];
+    let mut word = [0u8; 2208];
+    if !is_refused(line::encode(count, &bytes, 0, &mut line), 1) {
+        return false;
+    }
+    if !is_judged_refused(line::check(count, &line, 0), 1) {
+        return false;
+    }
+    if !is_refused(word::complete(count, &mut word), 1) {
+        return false;
+    }
+    is_judged_refused(word::check(count, &word), 1)
+}
+
+fn unused_bit() -> bool {
+    let mut line = [0u8; 322];
+    is_refused(line::encode(1, &[2u8], 1024, &mut line), 3)
+}
+
+// A whole payload of 1,799 bytes, into the room there is.
+fn whole_payload(line: &mut [u8]) -> Answer {
+    let payload = [255u8; 1799];
+    line::encode(14392, &payload, 0, line)
+}
+
+fn room_enough() -> bool {
+    let mut line = [0u8; 2121];
+    is_done(whole_payload(&mut line))
+}
+
+fn room_too_short() -> bool {
+    let mut line = [0u8; 2120];
+    is_refused(whole_payload(&mut line), 5)
+}
+
+// What a stream with 14,392 bits held answers to a piece.
+fn full_then(count: usize, piece: &[u8]) -> Answer {
+    let payload = [255u8; 1799];
+    let step = stream::piece(stream::begin(), 14392, &payload);
+    let later = step.stream;
+    let last = stream::piece(later, count, piece);
+    let answer = last.answer;
+    answer
+}
+
+fn fresh_finish() -> bool {
+    let mut tail = [0u8; 322];
+    let step = stream::finish(stream::begin(), 1024, &mut tail);
+    let answer = step.answer;
+    is_refused(answer, 1)
+}
+
+fn lesson(tally: Tally, is_right: bool, name: &[u8]) -> Tally {
+    let later = tally::count(tally, is_right);
+    say::text(name);
+    later
+}
+
+// The places.
+fn places(tally: Tally) -> Tally {
+    let first = [176usize, 919, 1655, 2304, 2607, 3019];
+    let last_of_block = [175usize, 918, 1654, 2559, 2606, 3018];
+    let next_block = [256usize, 677, 1110, 1490, 1930, 2096];
+    let last = [311usize, 1214, 2677];
+    let parity = [551usize, 1024, 1633];
+    let a = lesson(tally, payload_place(0, &first), b"place 0\n");
+    let b = lesson(a, payload_place(255, &last_of_block), b"place 255\n");
+    let c = lesson(b, payload_place(256, &next_block), b"place 256\n");
+    let d = lesson(c, payload_place(14391, &last), b"place 14391\n");
+    lesson(d, parity_place(0, &parity), b"place 14592\n")
+}
+
+// Full words.
+fn words(tally: Tally) -> Tally {
+    let a = lesson(tally, all_zero(), b"all 0, K 1\n");
+    let b = lesson(a, is_check(only(0, 1), 176), b"only bit 0, K 1\n");
+    let c = lesson(b, is_shortened(only(1, 1), 1), b"only bit 1, K 1\n");
+    let d = lesson(
+        c,
+        is_shortened(only(14392, 14392), 14392),
+        b"only bit 14392, K 14392\n",
+    );
+    lesson(d, is_check(only(14592, 1), 551), b"only bit 14592, K 1\n")
+}
+
+// Line words and refusals.
+fn lines(tally: Tally) -> Tally {
+    let a = lesson(tally, least_payload(), b"K 1, byte 00, delimiter 1023\n");
+    let b = lesson(a, bad_count(0), b"K 0\n");
+    let c = lesson(b, bad_count(14393), b"K 14393\n");
+    let d = lesson(c, unused_bit(), b"K 1, byte 02, delimiter 1024\n");
+    let e = lesson(d, room_enough(), b"K 14392, room 2121\n");
+    lesson(e, room_too_short(), b"K 14392, room 2120\n")
+}
+
+fn streams(tally: Tally) -> Tally {
+    let none = [0u8; 0];
+    let one = [0u8; 1];
+    let a = lesson(
+        tally,
+        is_done(full_then(0, &none)),
+        b"14392 held, piece of 0\n",
+    );
+    let b = lesson(
+        a,
+        is_refused(full_then(1, &one), 6),
+        b"14392 held, piece of 1\n",
+    );
+    lesson(b, fresh_finish(), b"fresh finish, delimiter 1024\n")
+}
+
+// All lessons, a line each.
+pub fn run() -> Tally {
+    let a = places(tally::new());
+    let b = words(a);
+    let c = lines(b);
+    streams(c)
+}

@@ -1,0 +1,78 @@
+// Decimal numbers, from text.
+use crate::say;
+
+// What a text is: a number; none; or one above the largest usize.
+pub enum Number {
+    Is(usize),
+    Isnt,
+    TooLarge,
+}
+
+// A number with a digit more.
+fn with_digit(value: usize, byte: u8) -> Number {
+    if byte < b'0' {
+        return Number::Isnt;
+    }
+    if b'9' < byte {
+        return Number::Isnt;
+    }
+    let digit = (byte - b'0') as usize;
+    if (usize::MAX - digit) / 10 < value {
+        return Number::TooLarge;
+    }
+    Number::Is(10 * value + digit)
+}
+
+// The number that a text spells in digits.
+pub fn read(text: &[u8]) -> Number {
+    if text.len() == 0 {
+        return Number::Isnt;
+    }
+    let mut value = 0;
+    for i in 0..text.len() {
+        match with_digit(value, text[i]) {
+            Number::Is(more) => {
+                value = more;
+            }
+            Number::Isnt => {
+                return Number::Isnt;
+            }
+            Number::TooLarge => {
+                return Number::TooLarge;
+            }
+        }
+    }
+    Number::Is(value)
+}
+
+pub fn is_one(number: Number) -> bool {
+    match number {
+        Number::Is(_) => true,
+        Number::Isnt | Number::TooLarge => false,
+    }
+}
+
+// The number, or 0 where there is none.
+pub fn value(number: Number) -> usize {
+    match number {
+        Number::Is(value) => value,
+        Number::Isnt | Number::TooLarge => 0,
+    }
+}
+
+// The number that an argument spells. What is wrong with it is said, with its name and the numbers to type.
+pub fn argument(i: usize, name: &[u8], range: &[u8]) -> Number {
+    let mut text = io::buffer();
+    let n = os::arg(i, &mut text);
+    let number = read(&text[..n]);
+    match number {
+        Number::Is(_) => {}
+        Number::Isnt => {
+            say::wrong(name, b" is no number; type ", range);
+        }
+        Number::TooLarge => {
+            say::wrong(name, b" is too large; type ", range);
+        }
+    }
+    number
+}

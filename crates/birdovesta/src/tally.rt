@@ -1,0 +1,40 @@
+// How many of what was tried is right, and how many wrong.
+use crate::say;
+
+pub struct Tally {
+    pub right: usize,
+    pub wrong: usize,
+}
+
+pub fn new() -> Tally {
+    Tally { right: 0, wrong: 0 }
+}
+
+// One more, as far as can be counted.
+pub fn more(count: usize) -> usize {
+    if count < usize::MAX {
+        return count + 1;
+    }
+    count
+}
+
+// Begins a line with `right` or `wrong`, and counts it.
+pub fn count(tally: Tally, is_right: bool) -> Tally {
+    if is_right {
+        say::text(b"right ");
+        return Tally {
+            right: more(tally.right),
+            wrong: tally.wrong,
+        };
+    }
+    say::text(b"wrong ");
+    Tally {
+        right: tally.right,
+        wrong: more(tally.wrong),
+    }
+}
+
+pub fn total(tally: Tally) {
+    say::count(tally.right, b" right\n");
+    say::count(tally.wrong, b" wrong\n");
+}
