@@ -50,6 +50,7 @@ pub fn encode() {
     }
 }
 
+// Completes the word that was read into OUT.
 fn complete_bytes(bits: usize, word: &mut [u8]) {
     match word::complete(bits, word) {
         Answer::Done => {
@@ -124,7 +125,7 @@ struct Feeding {
     fine: bool,
 }
 
-// The piece in two arguments, BITS and PIECE: whether the one is a number and the other a file.
+// A piece is two arguments, BITS and PIECE: whether the one is a number and the other a file.
 fn is_piece(i: usize, j: usize) -> bool {
     let Number::Is(_) = numbers::argument(i, b"BITS", b"0 to 14392") else {
         return false;
@@ -132,7 +133,7 @@ fn is_piece(i: usize, j: usize) -> bool {
     files::is_there(j)
 }
 
-// Feeds that piece to the stream, and says what it answers. A file that fills the buffer may be longer than any piece.
+// Feeds a piece to the stream, and says what it answers. A file that fills the buffer may go on: it is refused as too long.
 fn feed(stream: Stream, i: usize, j: usize) -> Feeding {
     let Number::Is(bits) = numbers::argument(i, b"BITS", b"0 to 14392") else {
         return Feeding {
@@ -142,8 +143,7 @@ fn feed(stream: Stream, i: usize, j: usize) -> Feeding {
     };
     let mut piece = io::large_buffer();
     let got = files::read(j, &mut piece);
-    let fine = got.fine;
-    if !fine {
+    if !got.fine {
         return Feeding {
             stream: stream,
             fine: false,
@@ -174,6 +174,7 @@ fn feed(stream: Stream, i: usize, j: usize) -> Feeding {
     }
 }
 
+// Finishes the stream into OUT.
 fn finish(stream: Stream, delimiter: usize) {
     let mut tail = [0u8; 322];
     let step = stream::finish(stream, delimiter, &mut tail);

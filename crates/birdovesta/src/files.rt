@@ -1,4 +1,5 @@
-// Files of bytes: read up to the room there is, and written whole or not at all.
+// Files of bytes. One is read as far as there is room, so that whoever reads a byte too many sees it, and written whole or
+// not at all: to a new file beside it, NAME.new, which then takes its name.
 ghost use lib.ListN.{length};
 ghost use Prim.Native.Nat.{_≤_};
 ghost use Rattle.io.specs.Counts.{Counts};
@@ -55,7 +56,7 @@ pub fn read_at(path: &[u8], room: &mut [u8]) -> Got
     let got = fill(fd, room);
     libc::close(fd);
     if !got.fine {
-        say::wrong(b"cannot read ", path, b"; name another file");
+        say::cannot_read(path);
     }
     got
 }
@@ -75,15 +76,15 @@ pub fn is_there(i: usize) -> bool {
     let n = os::arg(i, &mut path);
     let fd = os::open_read(&path[..n]);
     if fd < 0 {
-        say::wrong(b"cannot read ", &path[..n], b"; name another file");
+        say::cannot_read(&path[..n]);
         return false;
     }
     libc::close(fd);
     true
 }
 
-// Whether a new file may take this name: no file has it, or a plain one that may be written. (A terminal or another device
-// can't be synchronised.)
+// Whether a new file may take this name: no file has it, or a plain one that may be written. A terminal, a pipe or another
+// device can't be synchronised, and keeps its name.
 fn is_free(path: &[u8]) -> bool {
     if path.len() == 0 {
         return false;
@@ -105,15 +106,14 @@ fn write_and_close(fd: i32, bytes: &[u8]) -> bool {
     is_written && synchronised == 0 && closed == 0
 }
 
-// Gives the bytes to the file at a path: they are written to a new file beside it, which then takes its name. Where that
-// fails, says so, and the new file is gone.
+// Gives the bytes to the file at a path, by way of the new one. Where that fails, says so, and the new file is gone.
 fn replace(path: &[u8], new: &[u8], bytes: &[u8]) -> bool {
     let fd = os::create(new);
     if fd < 0 {
         if os::errno() == libc::EEXIST {
             say::wrong(b"", new, b" is in the way; remove it");
         } else {
-            say::wrong(b"cannot write ", new, b"; name another file");
+            say::cannot_write(path);
         }
         return false;
     }
@@ -123,10 +123,11 @@ fn replace(path: &[u8], new: &[u8], bytes: &[u8]) -> bool {
         }
     }
     os::unlink(new);
-    say::wrong(b"cannot write ", path, b"; name another file");
+    say::cannot_write(path);
     false
 }
 
+// Stores a byte, where there is room.
 fn put(name: &mut [u8], at: usize, byte: u8) {
     if at < name.len() {
         name[at] = byte;
@@ -147,7 +148,7 @@ fn add_new(name: &mut [u8], n: usize) -> usize
     io::count((n + 4) as isize, name)
 }
 
-// Writes the file that an argument names, and says how many bytes; or says what is wrong, and no file has changed.
+// Writes the file that an argument names, and says of how many bytes; or says what is wrong, and no file has changed.
 pub fn write(i: usize, bytes: &[u8]) {
     let mut path = io::buffer();
     let n = os::arg(i, &mut path);
@@ -155,7 +156,7 @@ pub fn write(i: usize, bytes: &[u8]) {
     let kept = os::arg(i, &mut new);
     let m = add_new(&mut new, kept);
     if !is_free(&path[..n]) {
-        say::wrong(b"cannot write ", &path[..n], b"; name another file");
+        say::cannot_write(&path[..n]);
         return;
     }
     if replace(&path[..n], &new[..m], bytes) {

@@ -1,20 +1,20 @@
-// Decimal numbers, from text.
+// Decimal numbers, as texts and arguments spell them.
 use crate::say;
 
-// What a text is: a number; none; or one above the largest usize.
+// What a text spells: a number; nothing of the kind; or one above the largest usize.
 pub enum Number {
     Is(usize),
-    Isnt,
+    Nothing,
     TooLarge,
 }
 
-// A number with a digit more.
+// A number with one digit more.
 fn with_digit(value: usize, byte: u8) -> Number {
     if byte < b'0' {
-        return Number::Isnt;
+        return Number::Nothing;
     }
     if b'9' < byte {
-        return Number::Isnt;
+        return Number::Nothing;
     }
     let digit = (byte - b'0') as usize;
     if (usize::MAX - digit) / 10 < value {
@@ -26,7 +26,7 @@ fn with_digit(value: usize, byte: u8) -> Number {
 // The number that a text spells in digits.
 pub fn read(text: &[u8]) -> Number {
     if text.len() == 0 {
-        return Number::Isnt;
+        return Number::Nothing;
     }
     let mut value = 0;
     for i in 0..text.len() {
@@ -34,8 +34,8 @@ pub fn read(text: &[u8]) -> Number {
             Number::Is(more) => {
                 value = more;
             }
-            Number::Isnt => {
-                return Number::Isnt;
+            Number::Nothing => {
+                return Number::Nothing;
             }
             Number::TooLarge => {
                 return Number::TooLarge;
@@ -48,7 +48,7 @@ pub fn read(text: &[u8]) -> Number {
 pub fn is_one(number: Number) -> bool {
     match number {
         Number::Is(_) => true,
-        Number::Isnt | Number::TooLarge => false,
+        Number::Nothing | Number::TooLarge => false,
     }
 }
 
@@ -56,7 +56,7 @@ pub fn is_one(number: Number) -> bool {
 pub fn value(number: Number) -> usize {
     match number {
         Number::Is(value) => value,
-        Number::Isnt | Number::TooLarge => 0,
+        Number::Nothing | Number::TooLarge => 0,
     }
 }
 
@@ -67,7 +67,7 @@ pub fn argument(i: usize, name: &[u8], range: &[u8]) -> Number {
     let number = read(&text[..n]);
     match number {
         Number::Is(_) => {}
-        Number::Isnt => {
+        Number::Nothing => {
             say::wrong(name, b" is no number; type ", range);
         }
         Number::TooLarge => {

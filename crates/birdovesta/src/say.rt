@@ -58,3 +58,11 @@ pub fn wrong(before: &[u8], name: &[u8], after: &[u8]) {
     io::write_all(STDERR_FILENO, after);
     io::write_all(STDERR_FILENO, b"\n");
 }
+
+pub fn cannot_read(path: &[u8]) {
+    wrong(b"cannot read ", path, b"; name another file");
+}
+
+pub fn cannot_write(path: &[u8]) {
+    wrong(b"cannot write ", path, b"; name another file");
+}

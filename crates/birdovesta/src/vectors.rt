@@ -92,7 +92,7 @@ fn put_digit(bytes: &mut [u8], n: usize, byte: u8) -> Number {
     }
     let value = digit(byte);
     if 15 < value {
-        return Number::Isnt;
+        return Number::Nothing;
     }
     let at = n / 2;
     if bytes.len() <= at {
@@ -111,7 +111,7 @@ fn put_digits(bytes: &mut [u8], n: usize, text: &[u8]) -> Number {
     let mut count = n;
     for i in 0..text.len() {
         let Number::Is(later) = put_digit(bytes, count, text[i]) else {
-            return Number::Isnt;
+            return Number::Nothing;
         };
         count = later;
     }

@@ -6,6 +6,7 @@
 --   OwnChecks s p     p, 384 bytes, is the parity whose own checks are the bits of s
 --   tail p d          the sent parity of p, bits 0 to 2,559, then the delimiter d, bits 0 to 9, lowest first
 --   lineWord K u p d  step 4: K bits of u, then the tail
+--   tailBits          the tail's length, 2,570
 --   lineBits K        the line word's length, K + 2,570
 --   digit d n         bit n of the number d
 --

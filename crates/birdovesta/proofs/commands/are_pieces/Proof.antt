@@ -1,4 +1,4 @@
--- `birdovesta::are_pieces` meets its contract.
+-- `birdovesta::commands::are_pieces` is safe and ends.
 use borrow.Author.Needs.{needs}
 use Prim.Native.Nat.{_≤_, _-_}
 use Rattle.birdovesta.proofs.commands.are_pieces.Statement.{statement}

@@ -1,4 +1,4 @@
--- `birdovesta::feed_all` meets its contract.
+-- `birdovesta::commands::feed_all` is safe and ends.
 use borrow.Author.Needs.{needs}
 use Prim.Native.Nat.{_≤_, _-_}
 use Rattle.birdovesta.proofs.commands.feed_all.Statement.{statement}

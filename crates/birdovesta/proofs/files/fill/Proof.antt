@@ -1,4 +1,4 @@
--- `birdovesta::fill` meets its contract.
+-- `birdovesta::files::fill` meets its contract: what is read lies within the room, and each turn leaves less of it.
 use borrow.Author.Needs.{needs}
 use mathlib.Core.Path.{_≡_}
 use Prim.Native.Nat.{_≤_, _-_}

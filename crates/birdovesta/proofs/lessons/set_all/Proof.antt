@@ -1,4 +1,4 @@
--- `birdovesta::set_all` meets its contract.
+-- `birdovesta::lessons::set_all` is safe and ends.
 use borrow.Author.Needs.{needs}
 use mathlib.Core.Path.{_≡_}
 use Prim.Native.Nat.{_≤_, _-_}

@@ -1,4 +1,4 @@
--- `birdovesta::read` meets its contract.
+-- `birdovesta::numbers::read` is safe and ends.
 use borrow.Author.Needs.{needs}
 use mathlib.Core.Path.{_≡_}
 use Prim.Native.Nat.{_≤_, _-_}

@@ -1,4 +1,4 @@
--- `birdovesta::find` meets its contract.
+-- `birdovesta::vectors::find` meets its contract: the place lies within the text.
 use borrow.Author.Needs.{needs}
 use mathlib.Core.Path.{_≡_}
 use Prim.Native.Nat.{_≤_, _-_}

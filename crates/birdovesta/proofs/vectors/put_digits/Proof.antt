@@ -1,4 +1,4 @@
--- `birdovesta::put_digits` meets its contract.
+-- `birdovesta::vectors::put_digits` is safe and ends.
 use borrow.Author.Needs.{needs}
 use mathlib.Core.Path.{_≡_}
 use Prim.Native.Nat.{_≤_, _-_}

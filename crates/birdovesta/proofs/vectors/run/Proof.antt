@@ -1,4 +1,4 @@
--- `birdovesta::run` meets its contract.
+-- `birdovesta::vectors::run` is safe and ends: each turn begins further on in the text.
 use borrow.Author.Needs.{needs}
 use mathlib.Core.Path.{_≡_}
 use Prim.Native.Nat.{_≤_, _-_}
