@@ -1,23 +1,12 @@
 // The commands over files: each reads its arguments and its files, calls one operation and says what it answers.
 // A file is read into a buffer that is longer than any operation's bytes, so that the operation refuses what is too long.
 ghost use Prim.Native.Nat.{_+_, _*_, _^_, _<_};
-ghost use Rattle.io.specs.Counts.{Counts};
-use crate::files;
-use crate::numbers;
-use crate::numbers::Number;
-use crate::say;
+use console::files;
+use console::numbers;
+use console::numbers::Number;
+use console::say;
 use rules::Answer;
 use rules::Stream;
-
-// How many bytes of a line the line word of so many payload bits takes. There is one for at most 14,392 of them.
-pub fn line_bytes(bits: usize, line: &[u8]) -> usize
-    ensures { λ r. ⌜ Counts r (now (line .entry)) ⌝ }
-{
-    if 14392 < bits {
-        return 0;
-    }
-    io::count(bits::needed(bits + 2570) as isize, line)
-}
 
 // encode BITS DELIMITER PAYLOAD LINE
 pub fn encode() {
@@ -41,7 +30,7 @@ pub fn encode() {
     let answer = line::encode(bits, &payload[..size], delimiter, &mut line);
     match answer {
         Answer::Done => {
-            let n = line_bytes(bits, &line);
+            let n = numbers::line_bytes(bits, &line);
             files::write(5, &line[..n]);
         }
         Answer::Refused(number) => {

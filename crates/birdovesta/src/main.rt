@@ -1,11 +1,10 @@
 // The program: each command hands files of bytes to the proved libraries and says what they answer.
 mod commands;
-mod files;
-mod lessons;
-mod numbers;
-mod say;
-mod tally;
-mod vectors;
+
+use console::say;
+use lessons::sheet;
+use lessons::tally;
+use lessons::vectors;
 
 // lessons [VECTORS]
 fn run_lessons() {
@@ -14,7 +13,7 @@ fn run_lessons() {
         return;
     }
     if !vectors::is_there() {
-        let tally = lessons::run();
+        let tally = sheet::run();
         say::text(b"vectors: none\n");
         tally::total(tally);
         return;
@@ -29,7 +28,7 @@ fn run_lessons() {
         say::wrong(b"VECTORS is too long; cut it in two", b"", b"");
         return;
     }
-    let tally = lessons::run();
+    let tally = sheet::run();
     tally::total(vectors::run(&text[..size], tally));
 }
 

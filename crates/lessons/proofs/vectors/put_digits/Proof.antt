@@ -1,10 +1,10 @@
--- `birdovesta::vectors::put_digits` is safe and ends.
+-- `lessons::vectors::put_digits` is safe and ends.
 use borrow.Author.Needs.{needs}
 use mathlib.Core.Path.{_≡_}
 use Prim.Native.Nat.{_≤_, _-_}
 use lib.ListN.{length}
-use Rattle.birdovesta.proofs.vectors.put_digits.Statement.{statement}
-use Rattle.birdovesta.proofs.vectors.put_digits.Tie as tie
+use Rattle.lessons.proofs.vectors.put_digits.Statement.{statement}
+use Rattle.lessons.proofs.vectors.put_digits.Tie as tie
 
 abbrev Inv-loop : tie.InvT-loop
 Inv-loop bytes₀ n text count₀ i₀ i-end bytes count i = (i ≤ i-end) × (i-end ≡ length text) × (length bytes ≡ length bytes₀)

@@ -1,10 +1,10 @@
--- `birdovesta::vectors::find` meets its contract: the place lies within the text.
+-- `lessons::vectors::find` meets its contract: the place lies within the text.
 use borrow.Author.Needs.{needs}
 use mathlib.Core.Path.{_≡_}
 use Prim.Native.Nat.{_≤_, _-_}
 use lib.ListN.{length}
-use Rattle.birdovesta.proofs.vectors.find.Statement.{statement}
-use Rattle.birdovesta.proofs.vectors.find.Tie as tie
+use Rattle.lessons.proofs.vectors.find.Statement.{statement}
+use Rattle.lessons.proofs.vectors.find.Tie as tie
 
 abbrev Inv-loop : tie.InvT-loop
 Inv-loop text from byte i₀ i-end i = (from ≤ i) × (i ≤ i-end) × (i-end ≡ length text)

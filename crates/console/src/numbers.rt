@@ -1,4 +1,5 @@
 // Decimal numbers, as texts and arguments spell them.
+ghost use Rattle.io.specs.Counts.{Counts};
 use crate::say;
 
 // What a text spells: a number; nothing of the kind; or one above the largest usize.
@@ -75,4 +76,14 @@ pub fn argument(i: usize, name: &[u8], range: &[u8]) -> Number {
         }
     }
     number
+}
+
+// How many bytes of a line the line word of so many payload bits takes. There is one for at most 14,392 of them.
+pub fn line_bytes(bits: usize, line: &[u8]) -> usize
+    ensures { λ r. ⌜ Counts r (now (line .entry)) ⌝ }
+{
+    if 14392 < bits {
+        return 0;
+    }
+    io::count(bits::needed(bits + 2570) as isize, line)
 }

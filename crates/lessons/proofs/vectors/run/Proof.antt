@@ -1,10 +1,10 @@
--- `birdovesta::vectors::run` is safe and ends: each turn begins further on in the text.
+-- `lessons::vectors::run` is safe and ends: each turn begins further on in the text.
 use borrow.Author.Needs.{needs}
 use mathlib.Core.Path.{_≡_}
 use Prim.Native.Nat.{_≤_, _-_}
 use lib.ListN.{length}
-use Rattle.birdovesta.proofs.vectors.run.Statement.{statement}
-use Rattle.birdovesta.proofs.vectors.run.Tie as tie
+use Rattle.lessons.proofs.vectors.run.Statement.{statement}
+use Rattle.lessons.proofs.vectors.run.Tie as tie
 
 abbrev Inv-loop : tie.InvT-loop
 Inv-loop text payload₀ line₀ reading₀ lines₀ from₀ payload line reading lines from = (from ≤ length text) × (length payload ≡ 1800) × (length line ≡ 2122)

@@ -2,14 +2,13 @@
 ghost use Prim.Native.Nat.{_≤_};
 ghost use lib.ListN.{length};
 ghost use Rattle.io.specs.Counts.{Counts};
-use crate::commands;
-use crate::files;
-use crate::files::Got;
-use crate::numbers;
-use crate::numbers::Number;
-use crate::say;
 use crate::tally;
 use crate::tally::Tally;
+use console::files;
+use console::files::Got;
+use console::numbers;
+use console::numbers::Number;
+use console::say;
 use rules::Answer;
 
 // What was read of a vector, and of the file so far. The payload and the line are counts of hexadecimal digits.
@@ -124,7 +123,7 @@ fn is_right(bits: usize, payload: &[u8], delimiter: usize, line: &[u8]) -> bool 
     let answer = line::encode(bits, payload, delimiter, &mut made);
     match answer {
         Answer::Done => {
-            let n = commands::line_bytes(bits, &made);
+            let n = numbers::line_bytes(bits, &made);
             check::same(&made[..n], line)
         }
         Answer::Refused(_) => false,

@@ -1,7 +1,7 @@
 // The lesson sheet of paper 01, run through the libraries. What a lesson expects is the sheet's.
-use crate::say;
 use crate::tally;
 use crate::tally::Tally;
+use console::say;
 use rules::Answer;
 use rules::Cause;
 use rules::Judgement;

@@ -1,10 +1,10 @@
--- `birdovesta::numbers::read` is safe and ends.
+-- `console::numbers::read` is safe and ends.
 use borrow.Author.Needs.{needs}
 use mathlib.Core.Path.{_≡_}
 use Prim.Native.Nat.{_≤_, _-_}
 use lib.ListN.{length}
-use Rattle.birdovesta.proofs.numbers.read.Statement.{statement}
-use Rattle.birdovesta.proofs.numbers.read.Tie as tie
+use Rattle.console.proofs.numbers.read.Statement.{statement}
+use Rattle.console.proofs.numbers.read.Tie as tie
 
 abbrev Inv-loop : tie.InvT-loop
 Inv-loop text value₀ i₀ i-end value i = (i ≤ i-end) × (i-end ≡ length text)

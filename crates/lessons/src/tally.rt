@@ -1,5 +1,5 @@
 // How many of what was tried is right, and how many wrong.
-use crate::say;
+use console::say;
 
 pub struct Tally {
     pub right: usize,
