@@ -1,5 +1,7 @@
 // Decimal numbers, as texts and arguments spell them.
+ghost use mathlib.Core.Path.{_≡_};
 ghost use Rattle.io.specs.Counts.{Counts};
+ghost use Rattle.console.specs.Spelled.{WithDigit, Spelled, isOne, orZero};
 use crate::say;
 
 // What a text spells: a number; nothing of the kind; or one above the largest usize.
@@ -10,7 +12,9 @@ pub enum Number {
 }
 
 // A number with one digit more.
-fn with_digit(value: usize, byte: u8) -> Number {
+fn with_digit(value: usize, byte: u8) -> Number
+    ensures { λ r. ⌜ WithDigit value byte r ⌝ }
+{
     if byte < b'0' {
         return Number::Nothing;
     }
@@ -25,7 +29,9 @@ fn with_digit(value: usize, byte: u8) -> Number {
 }
 
 // The number that a text spells in digits.
-pub fn read(text: &[u8]) -> Number {
+pub fn read(text: &[u8]) -> Number
+    ensures { λ r. ⌜ Spelled (now (text .entry)) r ⌝ }
+{
     if text.len() == 0 {
         return Number::Nothing;
     }
@@ -46,18 +52,24 @@ pub fn read(text: &[u8]) -> Number {
     Number::Is(value)
 }
 
-pub fn is_one(number: Number) -> bool {
+pub fn is_one(number: Number) -> bool
+    ensures { λ r. ⌜ r ≡ isOne number ⌝ }
+{
     match number {
         Number::Is(_) => true,
-        Number::Nothing | Number::TooLarge => false,
+        Number::Nothing => false,
+        Number::TooLarge => false,
     }
 }
 
 // The number, or 0 where there is none.
-pub fn value(number: Number) -> usize {
+pub fn value(number: Number) -> usize
+    ensures { λ r. ⌜ r ≡ orZero number ⌝ }
+{
     match number {
         Number::Is(value) => value,
-        Number::Nothing | Number::TooLarge => 0,
+        Number::Nothing => 0,
+        Number::TooLarge => 0,
     }
 }
 
