@@ -1,5 +1,6 @@
 pub mod Bits
 pub mod Runs
+pub mod Numbers
 pub mod Columns
 pub mod Running
 pub mod Told

@@ -1,20 +1,104 @@
 // Adds turned blocks: the one way in which bits reach the checks.
+// A block is turned by words: a word is 64 bits of it as one number, the first bit lowest.
 // Its functions serve the crates above, which show what they require; no user calls them.
 ghost use mathlib.Core.Path.{_≡_};
-ghost use Prim.Native.Nat.{_<_};
+ghost use Prim.Native.Nat.{_+_, _*_, _/_, _%_, _^_, _≤_, _<_};
 ghost use lib.ListN.{length};
-ghost use Rattle.rules.specs.Bits.{zeros, run};
+ghost use Rattle.rules.specs.Bits.{bit, zeros, run, placed, sum};
+ghost use Rattle.rules.specs.Words.{digit};
 ghost use Rattle.bits.specs.Adds.{Adds};
-ghost use Rattle.turning.specs.Turning.{turned};
+ghost use Rattle.turning.specs.Turning.{turned, Holds, Stored};
+
+fn wide(byte: u8) -> u64
+    ensures { λ r. ⌜ r ≡ byte ⌝ }
+{
+    byte as u64
+}
+
+fn lowest(word: u64) -> u8
+    ensures { λ r. ⌜ r ≡ word % 2 ^ 8 ⌝ }
+{
+    (word % 256) as u8
+}
+
+// Byte i of the word that begins at byte `at`, at its weight in the word.
+fn byte_at(s: &[u8], at: usize, i: usize) -> u64
+    requires { ⌜ (at + i < length (now s)) × (i < 8) ⌝ }
+    ensures { λ r. ⌜ Holds r (placed (8 * i) 8 (λ t. bit (now (s .entry)) (8 * at + (8 * i + t)))) ⌝ }
+{
+    wide(s[at + i]) << (8 * i)
+}
+
+// Word `index` of s. Its bytes are spelt out, so that they compile to one load.
+fn word_at(s: &[u8], index: usize) -> u64
+    requires { ⌜ 8 * index + 8 ≤ length (now s) ⌝ }
+    ensures { λ r. ⌜ Holds r (λ k. bit (now (s .entry)) (64 * index + k)) ⌝ }
+{
+    let at = 8 * index;
+    byte_at(s, at, 0)
+        ^ byte_at(s, at, 1)
+        ^ byte_at(s, at, 2)
+        ^ byte_at(s, at, 3)
+        ^ byte_at(s, at, 4)
+        ^ byte_at(s, at, 5)
+        ^ byte_at(s, at, 6)
+        ^ byte_at(s, at, 7)
+}
+
+// The 64 bits from `turn` on of two words, one after the other. A shift by 64 is not allowed, so it is split.
+fn across(low: u64, high: u64, turn: usize) -> u64
+    requires { ⌜ turn < 64 ⌝ }
+    ensures { λ r. ⌜ Holds r (λ k. run 64 (digit low) (digit high) (k + turn)) ⌝ }
+{
+    (low >> turn) ^ ((high << 1) << (63 - turn))
+}
+
+// Word `index` of the sums with the turned block added.
+fn sum_at(sums: &[u8], block: &[u8], turn: usize, index: usize) -> u64
+    requires { ⌜ (length (now sums) ≡ 32) × (length (now block) ≡ 32) × (turn < 256) × (index < 4) ⌝ }
+    ensures { λ r. ⌜ Holds r (λ k. sum (bit (now (sums .entry))) (turned 256 (now (block .entry)) turn) (64 * index + k)) ⌝ }
+{
+    let seen = 64 * index + turn;
+    let low = word_at(block, seen / 64 % 4);
+    let high = word_at(block, (seen / 64 + 1) % 4);
+    word_at(sums, index) ^ across(low, high, seen % 64)
+}
+
+// Makes byte i of `word` the byte i of s from `at` on.
+fn put_byte(s: &mut [u8], at: usize, i: usize, word: u64)
+    requires { ⌜ (at + i < length (now s)) × (i < 8) ⌝ }
+    ensures { λ r. ⌜ Stored (now (s .entry)) (now (s .exit)) (at + i) 1 (word / 2 ^ (8 * i)) ⌝ }
+{
+    s[at + i] = lowest(word >> (8 * i));
+}
+
+// Makes `word` the word `index` of s.
+fn store(s: &mut [u8], index: usize, word: u64)
+    requires { ⌜ 8 * index + 8 ≤ length (now s) ⌝ }
+    ensures { λ r. ⌜ Stored (now (s .entry)) (now (s .exit)) (8 * index) 8 word ⌝ }
+{
+    let at = 8 * index;
+    put_byte(s, at, 0, word);
+    put_byte(s, at, 1, word);
+    put_byte(s, at, 2, word);
+    put_byte(s, at, 3, word);
+    put_byte(s, at, 4, word);
+    put_byte(s, at, 5, word);
+    put_byte(s, at, 6, word);
+    put_byte(s, at, 7, word);
+}
 
 // Adds a block of 256 bits, turned, to the 32 bytes of sums.
 pub fn add_turned(sums: &mut [u8], block: &[u8], turn: usize)
     requires { ⌜ (length (now sums) ≡ 32) × (length (now block) ≡ 32) × (turn < 256) ⌝ }
     ensures { λ r. ⌜ Adds (now (sums .entry)) (now (sums .exit)) (run 256 (turned 256 (now (block .entry)) turn) zeros) ⌝ }
 {
-    for place in 0..256 {
-        let seen = (place + turn) % 256;
-        let value = bits::bit_at(block, seen);
-        bits::add_bit(sums, place, value);
-    }
+    let first = sum_at(sums, block, turn, 0);
+    let second = sum_at(sums, block, turn, 1);
+    let third = sum_at(sums, block, turn, 2);
+    let fourth = sum_at(sums, block, turn, 3);
+    store(sums, 0, first);
+    store(sums, 1, second);
+    store(sums, 2, third);
+    store(sums, 3, fourth);
 }

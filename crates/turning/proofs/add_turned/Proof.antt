@@ -1,64 +1,74 @@
--- `turning::add_turned` meets its contract. The invariant: the places passed are added.
+-- `turning::add_turned` meets its contract: four words, each with its sum.
 use borrow.Author.Needs.{needs}
-use mathlib.Core.Path.{_≡_}
-use Prim.Native.Nat.{_-_, _≤_}
-use native.Mathlib.Omega.{arith}
-use Rattle.rules.specs.Bits.{zeros, run}
+use Prim.Native.Nat.{ℕ}
+use Rattle.rules.specs.Bits.{zeros}
 use Rattle.laws.proofs.Runs.{run-none}
-use Rattle.bits.specs.Adds.{Adds}
-use Rattle.bits.proofs.AddsLaws.{adds-none, adds-run}
+use Rattle.bits.proofs.AddsLaws.{adds-none}
 use Rattle.turning.specs.Turning.{turned}
+use Rattle.turning.proofs.Words.{adds-word}
 use Rattle.turning.proofs.add_turned.Statement.{statement}
 use Rattle.turning.proofs.add_turned.Tie as tie
 
-abbrev Inv-loop : tie.InvT-loop
-Inv-loop sums₀ block turn place₀ sums place = (place ≤ 256) × Adds sums₀ sums (run place (turned 256 block turn) zeros)
+sum-at-requires : tie.Need-sum-at-requires
+sum-at-requires c κs = search needs
 
-abbrev μ-loop : tie.MeasureT-loop
-μ-loop sums₀ block turn place₀ sums place = 256 - place
+sum-at-requires-2 : tie.Need-sum-at-requires-2
+sum-at-requires-2 c κs = search needs
 
-loop-holds : tie.Need-loop-holds Inv-loop μ-loop
-loop-holds c = (search needs, adds-none _ _ (run-none _ _))
+sum-at-requires-3 : tie.Need-sum-at-requires-3
+sum-at-requires-3 c κs = search needs
 
-add-seen : tie.Need-add-seen Inv-loop μ-loop
-add-seen c = search needs
+sum-at-requires-4 : tie.Need-sum-at-requires-4
+sum-at-requires-4 c κs = search needs
 
-bit-at-requires : tie.Need-bit-at-requires Inv-loop μ-loop
-bit-at-requires c κs = search needs
+store-requires : tie.Need-store-requires
+store-requires c κs = search needs
 
-add-bit-requires : tie.Need-add-bit-requires Inv-loop μ-loop
-add-bit-requires c κs = search needs
+store-requires-2 : tie.Need-store-requires-2
+store-requires-2 c κs = search needs
 
-add-place : tie.Need-add-place Inv-loop μ-loop
-add-place c = search needs
+store-requires-3 : tie.Need-store-requires-3
+store-requires-3 c κs = search needs
 
-loop-less : tie.Need-loop-less Inv-loop μ-loop
-loop-less c = search needs
+store-requires-4 : tie.Need-store-requires-4
+store-requires-4 c κs = search needs
 
-loop-again : tie.Need-loop-again Inv-loop μ-loop
-loop-again c =
-    let got = c .before .before .before .before in
-    let l = got .before .before .loop in
-    (search needs, adds-run _ (got .bit-at .ensures) (l .inv .1) (c .before .before .add-bit .ensures))
-
-same-length : tie.Need-same-length Inv-loop μ-loop
+same-length : tie.Need-same-length
 same-length c = search needs
 
-returns : tie.Need-returns Inv-loop μ-loop
-returns c = let e : c .before .loop .place ≡ 256 = omega arith in rw e at (c .before .loop .inv .1)
+returns : tie.Need-returns
+returns c =
+    let b4 = c .before .before in
+    let b3 = b4 .before .before .before .before in
+    let b2 = b3 .before .before .before .before in
+    let b1 = b2 .before .before .before .before in
+    let w4 = b1 .before .before in
+    let w3 = w4 .before .before in
+    let w2 = w3 .before .before in
+    let w1 = w2 .before .before in
+    let a = w1 .before .before .before .before .args in
+    let f : ℕ → ℕ = turned 256 (a .block .now) (a .turn) in
+    adds-word f 3
+    (adds-word f 2
+    (adds-word f 1
+    (adds-word f 0
+    (adds-none _ _ (run-none f zeros))
+    (b1 .store .ensures) (w1 .sum-at .ensures))
+    (b2 .store2 .ensures) (w2 .sum-at2 .ensures))
+    (b3 .store3 .ensures) (w3 .sum-at3 .ensures))
+    (b4 .store4 .ensures) (w4 .sum-at4 .ensures)
 
 pub add-turned-spec : {M : Type 1} → statement M
 add-turned-spec =
     tie.close
     (tie.spec
-    Inv-loop
-    μ-loop
-    loop-holds
-    add-seen
-    bit-at-requires
-    add-bit-requires
-    add-place
-    loop-less
-    loop-again
+    sum-at-requires
+    sum-at-requires-2
+    sum-at-requires-3
+    sum-at-requires-4
+    store-requires
+    store-requires-2
+    store-requires-3
+    store-requires-4
     same-length
     returns)

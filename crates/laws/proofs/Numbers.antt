@@ -1,0 +1,115 @@
+-- Laws of the bits of a number, over any width.
+--
+--   digit<          a digit is below 2
+--   digit-high      a number below 2 to the power n has no digit from n on
+--   digit-right     a shift to the right by s: digit k is the one at k + s
+--   digit-left      a shift to the left by s, of which n digits are kept: s zeros, then the digits
+--   digit-left-2    two shifts to the left are one by their sum
+--   digit-low       a number's n lowest digits are kept by mod 2 to the power n
+--   digit-joined    a number of b bits, and m bits that another has at the places from b on, joined by an exclusive or
+--   digit-across    the n digits from t on of two numbers of n digits, one after the other; the second moves by 1, then by n - 1 - t
+use mathlib.Core.Path.{_≡_, sym, ap, _∙_}
+use Prim.Native.Nat.{ℕ, _+_, _-_, _*_, _/_, _%_, _^_, _≤_, _<_}
+use native.Mathlib.Decide.{decLt}
+use native.Mathlib.Nat.{mod-lt, div-eq-of-lt, mul-assoc}
+use native.Mathlib.Omega.{arith}
+use lib.Bits.{bitXor}
+use lib.Dec.{lit<}
+use lib.Pow.{pow-add, pow-mono, shr-shr, shl-shr, field, mod-mod-pow}
+use Rattle.rules.specs.Bits.{zeros, run, placed}
+use Rattle.rules.specs.Words.{digit}
+use Rattle.laws.proofs.Bits.{bit-xor}
+use Rattle.laws.proofs.Runs.{run-low, run-high, run-each, run-below, run-run, run-join, placed-below, placed-in}
+
+pub digit< : (x k : ℕ) → digit x k < 2
+digit< x k = mod-lt _ (lit< tt)
+
+pub digit-right : (x s k : ℕ) → digit (x / 2 ^ s) k ≡ digit x (k + s)
+digit-right x s k = let e : s + k ≡ k + s = omega arith in rw (shr-shr, e)
+
+pub digit-high : (x n k : ℕ) → x < 2 ^ n → n ≤ k → digit x k ≡ 0
+digit-high x n k h l = let e : x / 2 ^ k ≡ 0 = div-eq-of-lt (omega (arith, pow-mono l)) in rw e
+
+pub digit-low : (x n k : ℕ) → k < n → digit (x % 2 ^ n) k ≡ digit x k
+digit-low x n k h =
+    let e : n ≡ (n - k - 1 + 1) + k = omega arith in
+    rw (e, field x (n - k - 1 + 1) k) (mod-mod-pow (x / 2 ^ k) (n - k - 1) 1)
+
+shifted-twice : (x i j : ℕ) → x * 2 ^ (i + j) ≡ x * 2 ^ i * 2 ^ j
+shifted-twice x i j = rw pow-add (sym (mul-assoc x (2 ^ i) (2 ^ j)))
+
+-- the digits of a shift to the left, all of them
+digit-moved : (x s k : ℕ) → digit (x * 2 ^ s) k ≡ run s zeros (digit x) k
+digit-moved x s k = elim (decLt k s) [
+  | yes h ↦
+      let e : s ≡ (s - k - 1 + 1) + k = omega arith in
+      let moved : x * 2 ^ s / 2 ^ k ≡ x * 2 ^ (s - k - 1) * 2 ^ 1 =
+      ap (λ (n : ℕ). x * 2 ^ n / 2 ^ k) e
+      ∙ ap (λ (n : ℕ). n / 2 ^ k) (shifted-twice x (s - k - 1 + 1) k)
+      ∙ shl-shr (x * 2 ^ (s - k - 1 + 1)) k
+      ∙ shifted-twice x (s - k - 1) 1 in
+      rw (moved, run-low s zeros (digit x) k h) (omega arith)
+  | no h ↦
+      let e : k ≡ s + (k - s) = omega arith in
+      let moved : x * 2 ^ s / 2 ^ k ≡ x / 2 ^ (k - s) =
+      ap (λ (n : ℕ). x * 2 ^ s / 2 ^ n) e
+      ∙ sym (shr-shr (x * 2 ^ s) s (k - s))
+      ∙ ap (λ (n : ℕ). n / 2 ^ (k - s)) (shl-shr x s) in
+      rw (moved, run-high s zeros (digit x) k (omega arith))
+]
+
+pub digit-left : (x s n k : ℕ) → k < n → digit ((x * 2 ^ s) % 2 ^ n) k ≡ run s zeros (digit x) k
+digit-left x s n k h = digit-low (x * 2 ^ s) n k h ∙ digit-moved x s k
+
+pub digit-left-2 : (x s r n k : ℕ) → k < n → digit ((x * 2 ^ s) % 2 ^ n * 2 ^ r % 2 ^ n) k ≡ run (r + s) zeros (digit x) k
+digit-left-2 x s r n k h =
+    digit-left ((x * 2 ^ s) % 2 ^ n) r n k h
+    ∙ run-each r zeros (digit ((x * 2 ^ s) % 2 ^ n)) k (λ v. v ≡ run (r + s) zeros (digit x) k)
+    (λ l. sym (run-low (r + s) zeros (digit x) k (omega arith)))
+    (λ l.
+    digit-left x s n (k - r) (omega arith)
+    ∙ sym (run-high r zeros (run s zeros (digit x)) k l)
+    ∙ run-run r s (digit x) k)
+
+module _ (x y b m : ℕ) (f : ℕ → ℕ) (bits : (k : ℕ) → f k < 2) where
+  pub digit-joined : (k : ℕ) → digit x k ≡ run b f zeros k → digit y k ≡ placed b m (λ t. f (b + t)) k
+      → digit (bitXor x y) k ≡ run (b + m) f zeros k
+  digit-joined k p q =
+      bit-xor x y k
+      ∙ rw (p, q, ← run-join b m f k) (omega (arith, run-below (b + m) f zeros (λ n h. bits n) (λ n. lit< tt) k))
+
+module _ (n low high t : ℕ) (small : low < 2 ^ n) (less : t < n) where
+  both : ℕ → ℕ
+  both k = run n (digit low) (digit high) (k + t)
+
+  first : (k : ℕ) → digit (low / 2 ^ t) k ≡ run (n - t) both zeros k
+  unfolding both
+  first k =
+      digit-right low t k
+      ∙ run-each (n - t) both zeros k (λ v. digit low (k + t) ≡ v)
+      (λ l. sym (run-low n (digit low) (digit high) (k + t) (omega arith)))
+      (λ l. digit-high low n (k + t) small (omega arith))
+
+  second : (k : ℕ) → k < n → digit ((high * 2 ^ 1) % 2 ^ n * 2 ^ (n - 1 - t) % 2 ^ n) k ≡ placed (n - t) t (λ i. both (n - t + i)) k
+  unfolding both
+  second k h =
+      let e : n - 1 - t + 1 ≡ n - t = omega arith in
+      digit-left-2 high 1 (n - 1 - t) n k h
+      ∙ rw e
+      (run-each (n - t) zeros (digit high) k (λ v. v ≡ placed (n - t) t (λ i. both (n - t + i)) k)
+      (λ l. sym (placed-below (n - t) t _ k l))
+      (λ l.
+      sym
+      (placed-in (n - t) t (λ i. both (n - t + i)) k l (omega arith)
+      ∙ run-high n (digit low) (digit high) (n - t + (k - (n - t)) + t) (omega arith)
+      ∙ ap (digit high) (omega arith))))
+
+  bits : (k : ℕ) → both k < 2
+  unfolding both
+  bits k = run-below n (digit low) (digit high) (λ i l. digit< low i) (digit< high) (k + t)
+
+  pub digit-across : (k : ℕ) → k < n
+      → digit (bitXor (low / 2 ^ t) ((high * 2 ^ 1) % 2 ^ n * 2 ^ (n - 1 - t) % 2 ^ n)) k ≡ run n (digit low) (digit high) (k + t)
+  unfolding both
+  digit-across k h =
+      digit-joined _ _ (n - t) t both bits k (first k) (second k h) ∙ run-low (n - t + t) both zeros k (omega arith)
