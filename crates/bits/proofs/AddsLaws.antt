@@ -4,7 +4,6 @@
 --   adds-then        one after the other
 --   adds-as          by an equal function
 --   adds-more        one more summand of a sum of functions
---   adds-run         one more bit of a run
 --   adds-placed      one more bit of a placed run
 --   stored s i w v   s after an exclusive or: of its byte i with the bit v at the weight w
 --   adds-bit         which adds v to bit 8 i + w
@@ -20,7 +19,7 @@ use lib.ListN.{length, getD, set, take, drop, length-set, length-take, length-dr
 use Rattle.rules.specs.Bits.{bit, zeros, run, placed}
 use Rattle.rules.specs.Matrix.{total}
 use Rattle.laws.proofs.Bits.{bit<, bit-xor, bit-weight, bit-set, bit-set-other, bit-part, mid, length-mid, bit-mid, bit-below, bit-above}
-use Rattle.laws.proofs.Runs.{run-high, run-run, run-more, placed-each, placed-more}
+use Rattle.laws.proofs.Runs.{run-high, run-run, placed-each, placed-more}
 use Rattle.bits.specs.Adds.{Adds}
 
 pub adds-none : (s : List ℕ) (f : ℕ → ℕ) → ((n : ℕ) → f n ≡ 0) → Adds s s f
@@ -39,9 +38,6 @@ module _ {s t u : List ℕ} where
   adds-more f {n} p q = adds-as (λ k. rw (add-one n)) (adds-then p q)
 
   module _ (x : ℕ → ℕ) {b v : ℕ} (e : v ≡ x b) where
-    pub adds-run : Adds s t (run b x zeros) → Adds t u (placed b 1 (λ k. v)) → Adds s u (run (b + 1) x zeros)
-    adds-run p q = adds-as (λ n. sym (run-more b x n)) (adds-then p (rw e at q))
-
     pub adds-placed : (h : ℕ) → Adds s t (placed h b x) → Adds t u (placed (h + b) 1 (λ k. v)) → Adds s u (placed h (b + 1) x)
     adds-placed h p q = adds-as (λ n. sym (placed-more h b x n)) (adds-then p (rw e at q))
 

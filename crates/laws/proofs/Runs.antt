@@ -8,7 +8,7 @@
 --   run-sum                      a run of sums is the sum of the runs
 --   run-run                      zeros after zeros
 --   run-join, placed-join        m more bits
---   run-more, placed-more        one more bit
+--   placed-more                  one more bit
 --   placed-below, placed-above   the places before and after b bits of x placed at h are 0
 --   placed-in                    the places between are those of x
 --   placed-each                  what holds in all three cases, holds of the placed run
@@ -109,11 +109,6 @@ placed-whole h b y n below above =
 -- a single bit that stands for the first of x
 single : (h : ℕ) (x : ℕ → ℕ) (v : ℕ) → x 0 ≡ v → (n : ℕ) → placed h 1 x n ≡ placed h 1 (λ t. v) n
 single h x v e = placed-same h 1 x (λ t. v) (λ t l. let z : t ≡ 0 = omega arith in rw z e)
-
-pub run-more : (b : ℕ) (x : ℕ → ℕ) (n : ℕ) → run (b + 1) x zeros n ≡ run b x zeros n + placed b 1 (λ t. x b) n
-run-more b x n =
-    run-join b 1 x n
-    ∙ ap (λ (v : ℕ). run b x zeros n + v) (single b (λ t. x (b + t)) (x b) (ap x (omega arith)) n)
 
 pub placed-more : (h b : ℕ) (x : ℕ → ℕ) (n : ℕ) → placed h (b + 1) x n ≡ placed h b x n + placed (h + b) 1 (λ t. x b) n
 placed-more h b x n =
