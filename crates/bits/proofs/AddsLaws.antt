@@ -18,7 +18,8 @@ use lib.Bits.{bitXor}
 use lib.ListN.{length, getD, set, take, drop, length-set, length-take, length-drop}
 use Rattle.rules.specs.Bits.{bit, zeros, run, placed}
 use Rattle.rules.specs.Matrix.{total}
-use Rattle.laws.proofs.Bits.{bit<, bit-xor, bit-weight, bit-set, bit-set-other, bit-part, mid, length-mid, bit-mid, bit-below, bit-above}
+use Rattle.laws.proofs.Bits.{bit<, bit-xor, bit-set, bit-set-other, bit-part, mid, length-mid, bit-mid, bit-below, bit-above}
+use Rattle.laws.proofs.Numbers.{digit-weight}
 use Rattle.laws.proofs.Runs.{run-high, run-run, placed-each, placed-more}
 use Rattle.bits.specs.Adds.{Adds}
 
@@ -55,7 +56,7 @@ module _ (s : List ℕ) (i w v : ℕ) (hi : i < length s) (hw : w < 8) (hv : v <
   same-byte n e =
       bit-set s i _ n hi e
       ∙ bit-xor (getD s i 0) _ (n % 8)
-      ∙ rw (bit-weight w (n % 8) v hw (omega arith) hv, in-byte n e, e)
+      ∙ rw (digit-weight v w 8 (n % 8) hv (omega arith), in-byte n e, e)
 
   other-byte : (n : ℕ) → (n / 8 ≡ i → ⊥) → placed (8 * i + w) 1 (λ t. v) n ≡ 0
   other-byte n d = placed-each (8 * i + w) 1 (λ t. v) n (λ x. x ≡ 0) (λ l. refl) (λ l k. absurd (d (omega arith))) (λ l. refl)

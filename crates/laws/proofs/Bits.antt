@@ -3,7 +3,6 @@
 --   bit<                      a bit is below 2
 --   bit-past                  past the end of a list every bit is 0
 --   bit-xor                   a bit of an exclusive or is the sum mod 2
---   bit-weight                the byte that has the bit v at the weight w is v there and 0 elsewhere
 --   bit-set, bit-set-other    a bit of a byte that was stored, and of another
 --   bit-take, bit-drop        a bit of the first k bytes, and of all from byte a on
 --   bit-front, bit-back       a bit of the first of two lists that are joined, and of the second
@@ -32,7 +31,7 @@ use lib.ListN.{length, getD, set, take, drop, replicate, length-append, length-t
 use lib.ListN.{drop-of-length-le, List·getD-append, List·getD-eq-default, getD-replicate}
 use lib.Pow.{shr-shr}
 use lib.Seq.{getD-set-same, getD-set-other, getD-take, getD-drop, getD-append-add, length-take-le, ext-getD}
-use Rattle.rules.specs.Bits.{bit, Bytes, run, placed}
+use Rattle.rules.specs.Bits.{bit, Bytes}
 use Rattle.rules.proofs.Tests.{every, every-at}
 
 pub bit< : (s : List ℕ) (n : ℕ) → bit s n < 2
@@ -60,17 +59,6 @@ bit-xor x y t =
     ap (λ (n : ℕ). n % 2) (xor-shr x y t)
     ∙ xor-mod (x / 2 ^ t) (y / 2 ^ t) 1
     ∙ xor-two (x / 2 ^ t % 2) (y / 2 ^ t % 2) (mod-lt _ (lit< tt)) (mod-lt _ (lit< tt))
-
-weighs : ℕ → ℕ → ℕ → Bool
-weighs w k v = eqb ((v * 2 ^ w) % 2 ^ 8 / 2 ^ k % 2) (placed w 1 (λ t. v) k)
-
-pub bit-weight : (w k v : ℕ) → w < 8 → k < 8 → v < 2 → (v * 2 ^ w) % 2 ^ 8 / 2 ^ k % 2 ≡ placed w 1 (λ t. v) k
-unfolding weighs run
-bit-weight w k v hw hk hv =
-    eqb→eq _ _
-    (every-at 2 (weighs w k)
-    (every-at 8 (λ k. every 2 (weighs w k)) (every-at 8 (λ w. every 8 (λ k. every 2 (weighs w k))) tt w hw) k hk)
-    v hv)
 
 pub bit-set : (s : List ℕ) (i v n : ℕ) → i < length s → n / 8 ≡ i → bit (set s i v) n ≡ v / 2 ^ (n % 8) % 2
 bit-set s i v n h e = rw (e, getD-set-same)

@@ -4,14 +4,15 @@
 --   digit-high      a number below 2 to the power n has no digit from n on
 --   digit-right     a shift to the right by s: digit k is the one at k + s
 --   digit-left      a shift to the left by s, of which n digits are kept: s zeros, then the digits
+--   digit-weight    a single bit v shifted to the weight w: v there and 0 elsewhere
 --   digit-left-2    two shifts to the left are one by their sum
 --   digit-low       a number's n lowest digits are kept by mod 2 to the power n
 --   digit-joined    a number of b bits, and m bits that another has at the places from b on, joined by an exclusive or
 --   digit-across    the n digits from t on of two numbers of n digits, one after the other; the second moves by 1, then by n - 1 - t
-use mathlib.Core.Path.{_≡_, sym, ap, _∙_}
+use mathlib.Core.Path.{_≡_, refl, sym, ap, _∙_}
 use Prim.Native.Nat.{ℕ, _+_, _-_, _*_, _/_, _%_, _^_, _≤_, _<_}
 use native.Mathlib.Decide.{decLt}
-use native.Mathlib.Nat.{mod-lt, div-eq-of-lt, mul-assoc}
+use native.Mathlib.Nat.{mod-lt, div-one, div-eq-of-lt, mul-assoc}
 use native.Mathlib.Omega.{arith}
 use lib.Bits.{bitXor}
 use lib.Dec.{lit<}
@@ -19,7 +20,7 @@ use lib.Pow.{pow-add, pow-mono, shr-shr, shl-shr, field, mod-mod-pow}
 use Rattle.rules.specs.Bits.{zeros, run, placed}
 use Rattle.rules.specs.Words.{digit}
 use Rattle.laws.proofs.Bits.{bit-xor}
-use Rattle.laws.proofs.Runs.{run-low, run-high, run-each, run-below, run-run, run-join, placed-below, placed-in}
+use Rattle.laws.proofs.Runs.{run-low, run-high, run-each, run-same, run-below, run-run, run-join, placed-below, placed-in}
 
 pub digit< : (x k : ℕ) → digit x k < 2
 digit< x k = mod-lt _ (lit< tt)
@@ -60,6 +61,15 @@ digit-moved x s k = elim (decLt k s) [
 
 pub digit-left : (x s n k : ℕ) → k < n → digit ((x * 2 ^ s) % 2 ^ n) k ≡ run s zeros (digit x) k
 digit-left x s n k h = digit-low (x * 2 ^ s) n k h ∙ digit-moved x s k
+
+pub digit-weight : (v w n k : ℕ) → v < 2 → k < n → digit ((v * 2 ^ w) % 2 ^ n) k ≡ placed w 1 (λ t. v) k
+digit-weight v w n k bit h = digit-left v w n k h ∙ run-same w zeros (digit v) zeros (run 1 (λ t. v) zeros) (λ i l. refl) alone k
+  where
+    alone : (i : ℕ) → digit v i ≡ run 1 (λ t. v) zeros i
+    alone i =
+        run-each 1 (λ t. v) zeros i (λ x. digit v i ≡ x)
+        (λ l. let e : i ≡ 0 = omega arith in rw (e, div-one) (omega arith))
+        (λ l. digit-high v 1 i bit l)
 
 pub digit-left-2 : (x s r n k : ℕ) → k < n → digit ((x * 2 ^ s) % 2 ^ n * 2 ^ r % 2 ^ n) k ≡ run (r + s) zeros (digit x) k
 digit-left-2 x s r n k h =

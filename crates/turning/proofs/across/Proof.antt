@@ -1,6 +1,6 @@
 -- `turning::across` meets its contract: two shifts that join.
 use borrow.Author.Needs.{needs}
-use Rattle.turning.proofs.Words.{word-across}
+use Rattle.turning.proofs.Quarters.{quarter-across}
 use Rattle.turning.proofs.across.Statement.{statement}
 use Rattle.turning.proofs.across.Tie as tie
 
@@ -15,7 +15,7 @@ shl-result c = search needs
 
 returns : tie.Need-returns
 returns c =
-    word-across (c .args .low) (c .args .high) (c .args .turn) (c .fits .low .fits) (c .pre)
+    quarter-across (c .args .low) (c .args .high) (c .args .turn) (c .fits .low .fits) (c .pre)
 
 pub across-spec : {M : Type 1} → statement M
 across-spec = tie.close (tie.spec shr-result sub-result shl-result returns)

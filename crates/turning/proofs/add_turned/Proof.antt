@@ -1,11 +1,11 @@
--- `turning::add_turned` meets its contract: four words, each with its sum.
+-- `turning::add_turned` meets its contract: four quarters, each with its sum.
 use borrow.Author.Needs.{needs}
 use Prim.Native.Nat.{ℕ}
 use Rattle.rules.specs.Bits.{zeros}
 use Rattle.laws.proofs.Runs.{run-none}
 use Rattle.bits.proofs.AddsLaws.{adds-none}
 use Rattle.turning.specs.Turning.{turned}
-use Rattle.turning.proofs.Words.{adds-word}
+use Rattle.turning.proofs.Quarters.{adds-quarter}
 use Rattle.turning.proofs.add_turned.Statement.{statement}
 use Rattle.turning.proofs.add_turned.Tie as tie
 
@@ -48,10 +48,10 @@ returns c =
     let w1 = w2 .before .before in
     let a = w1 .before .before .before .before .args in
     let f : ℕ → ℕ = turned 256 (a .block .now) (a .turn) in
-    adds-word f 3
-    (adds-word f 2
-    (adds-word f 1
-    (adds-word f 0
+    adds-quarter f 3
+    (adds-quarter f 2
+    (adds-quarter f 1
+    (adds-quarter f 0
     (adds-none _ _ (run-none f zeros))
     (b1 .store .ensures) (w1 .sum-at .ensures))
     (b2 .store2 .ensures) (w2 .sum-at2 .ensures))

@@ -1,7 +1,7 @@
 -- `turning::byte_at` meets its contract: a byte at its weight.
 use borrow.Author.Needs.{needs}
 use Prim.Native.Nat.{_+_}
-use Rattle.turning.proofs.Words.{byte-placed}
+use Rattle.turning.proofs.Quarters.{byte-placed}
 use Rattle.turning.proofs.byte_at.Statement.{statement}
 use Rattle.turning.proofs.byte_at.Tie as tie
 

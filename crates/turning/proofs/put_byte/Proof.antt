@@ -1,7 +1,7 @@
 -- `turning::put_byte` meets its contract: one byte is stored.
 use borrow.Author.Needs.{needs}
 use Prim.Native.Nat.{_+_, _*_, _/_, _^_}
-use Rattle.turning.proofs.Words.{stored-byte}
+use Rattle.turning.proofs.Quarters.{replaced-byte}
 use Rattle.turning.proofs.put_byte.Statement.{statement}
 use Rattle.turning.proofs.put_byte.Tie as tie
 
@@ -26,7 +26,7 @@ same-length c = search needs
 returns : tie.Need-returns
 returns c =
     let a = c .before .before .args in
-    rw (c .lowest .ensures) (stored-byte (a .s .now) (a .at + a .i) (a .word / 2 ^ (8 * a .i)) (c .before .before .pre .0))
+    rw (c .lowest .ensures) (replaced-byte (a .s .now) (a .at + a .i) (a .quarter / 2 ^ (8 * a .i)) (c .before .before .pre .0))
 
 pub put-byte-spec : {M : Type 1} → statement M
 put-byte-spec =

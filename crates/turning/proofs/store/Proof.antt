@@ -1,6 +1,6 @@
 -- `turning::store` meets its contract: eight bytes stored, one after the other.
 use borrow.Author.Needs.{needs}
-use Rattle.turning.proofs.Words.{stored-none, stored-more}
+use Rattle.turning.proofs.Quarters.{replaced-none, replaced-more}
 use Rattle.turning.proofs.store.Statement.{statement}
 use Rattle.turning.proofs.store.Tie as tie
 
@@ -44,14 +44,14 @@ returns c =
     let b2 = b3 .before .before .before .before in
     let b1 = b2 .before .before .before .before in
     let b0 = b1 .before .before .before .before in
-    stored-more
-    (stored-more
-    (stored-more
-    (stored-more
-    (stored-more
-    (stored-more
-    (stored-more
-    (stored-more (stored-none _ _ _) (b0 .put-byte .ensures))
+    replaced-more
+    (replaced-more
+    (replaced-more
+    (replaced-more
+    (replaced-more
+    (replaced-more
+    (replaced-more
+    (replaced-more (replaced-none _ _ _) (b0 .put-byte .ensures))
     (b1 .put-byte2 .ensures))
     (b2 .put-byte3 .ensures))
     (b3 .put-byte4 .ensures))

@@ -1,4 +1,4 @@
--- `turning::word_at` meets its contract: eight bytes joined, one after the other.
+-- `turning::quarter_at` meets its contract: eight bytes joined, one after the other.
 use borrow.Author.Needs.{needs}
 use mathlib.Core.Path.{ap, _∙_}
 use Prim.Native.Nat.{ℕ, _+_, _*_, _<_}
@@ -6,9 +6,9 @@ use native.Mathlib.Omega.{arith}
 use Rattle.rules.specs.Bits.{bit, zeros}
 use Rattle.laws.proofs.Bits.{bit<}
 use Rattle.laws.proofs.Runs.{run-low}
-use Rattle.turning.proofs.Words.{word-first, word-more}
-use Rattle.turning.proofs.word_at.Statement.{statement}
-use Rattle.turning.proofs.word_at.Tie as tie
+use Rattle.turning.proofs.Quarters.{quarter-first, quarter-more}
+use Rattle.turning.proofs.quarter_at.Statement.{statement}
+use Rattle.turning.proofs.quarter_at.Tie as tie
 
 mul-at : tie.Need-mul-at
 mul-at c = search needs
@@ -51,14 +51,14 @@ returns c =
     let f : ℕ → ℕ = λ k. bit (a .s .now) (8 * (8 * a .index) + k) in
     let bits : (k : ℕ) → f k < 2 = λ k. bit< (a .s .now) (8 * (8 * a .index) + k) in
     let w =
-    word-more 56 8 f bits
-    (word-more 48 8 f bits
-    (word-more 40 8 f bits
-    (word-more 32 8 f bits
-    (word-more 24 8 f bits
-    (word-more 16 8 f bits
-    (word-more 8 8 f bits
-    (word-first f (b0 .byte-at .ensures))
+    quarter-more 56 8 f bits
+    (quarter-more 48 8 f bits
+    (quarter-more 40 8 f bits
+    (quarter-more 32 8 f bits
+    (quarter-more 24 8 f bits
+    (quarter-more 16 8 f bits
+    (quarter-more 8 8 f bits
+    (quarter-first f (b0 .byte-at .ensures))
     (b1 .byte-at2 .ensures))
     (b2 .byte-at3 .ensures))
     (b3 .byte-at4 .ensures))
@@ -68,8 +68,8 @@ returns c =
     (b7 .byte-at8 .ensures) in
     record { each = λ k h. w .each k h ∙ run-low 64 f zeros k h ∙ ap (bit (a .s .now)) (omega arith) }
 
-pub word-at-spec : {M : Type 1} → statement M
-word-at-spec =
+pub quarter-at-spec : {M : Type 1} → statement M
+quarter-at-spec =
     tie.close
     (tie.spec
     mul-at
