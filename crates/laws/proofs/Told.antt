@@ -1,37 +1,42 @@
 -- Laws of refusal orders.
 --
---   Single P        at most one number fits P
---   told-single     an order tells one number, if what follows its first refusal does
---   told-first      a refusal that was told alone is told in any order that begins with it
---   told-next       one that was not told leaves the rest of the order
---   told-before     the first of two numbers told, or else the later one
---   told-left       where none is told, the first refusal does not apply, and none of the rest is told
---   good-count      a count that is not bad is 1 to 14,392
---   right-bytes     bytes that are not wrong are as many as needed
---   outcome-same    two outcomes, answer and later contents, are equal, if their numbers are and each case leaves one content only
+--   Single P          at most one number fits P
+--   told-single       an order tells one number
+--   told-first        a refusal that was told alone is told in any order that begins with it
+--   told-next         one that was not told leaves the rest of the order
+--   told-before       the first of two numbers told, or else the later one
+--   told-left         where none is told, the first refusal does not apply, and none of the rest is told
+--   refusal-of o k    when the refusal numbered k of the order o applies
+--   not-refused       where an order tells none, no refusal of it applies, wherever it stands
+--   after c o         the refusals of the order o after its start c
+--   same-start        of two orders that start alike, where one tells none, nor does the other, if what follows its start does not
+--   good-count        a count that is not bad is 1 to 14,392
+--   right-bytes       bytes that are not wrong are as many as needed
+--   outcome-same      two outcomes, answer and later contents, are equal, if their numbers are and each case leaves one content only
 use mathlib.Core.Path.{_≡_, refl, sym, ap, _∙_}
+use mathlib.Core.Bool.{Bool, true, false, cond}
 use mathlib.Core.Logic.{_⊎_, inl, inr, ⊎-elim}
-use mathlib.Core.List.{List}
-use Prim.Native.Nat.{ℕ, _≤_, _<_}
+use mathlib.Core.List.{List, [], _∷_, _++_}
+use Prim.Native.Nat.{ℕ, zero, suc, _≤_, _<_}
 use native.Mathlib.Decide.{ℕ-discrete, decLt}
 use native.Mathlib.Omega.{arith}
+use lib.Dec.{T, eqb}
 use lib.ListN.{length}
 use Rattle.rules.specs.Numbers.{payloadMost}
-use Rattle.rules.specs.Refusals.{told, none, BadCount, WrongBytes}
+use Rattle.rules.specs.Refusals.{Refusal, tells, badCount, wrongBytes}
 use Rattle.rules.specs.Promises.{number, by}
 use Rattle.rules.specs.declared.Answer.{Answer}
 use Rattle.rules.specs.declared.Answer.the-variants.{Done, Refused}
+use Rattle.rules.proofs.Tests.{both, both-left, both-right}
 
 abbrev pub Single : (ℕ → Type 0) → Type 0
 Single P = (r s : ℕ) → P r → P s → r ≡ s
 
-pub none-single : Single none
-none-single r s a b = a ∙ sym b
-
-pub told-single : (A : Type 0) (k : ℕ) (rest : ℕ → Type 0) → Single rest → Single (told A k rest)
-told-single A k rest h r s x y =
+pub told-single : (o : List Refusal) → Single (tells o)
+told-single [] r s a b = a ∙ sym b
+told-single (t ∷ o) r s x y =
     ⊎-elim (λ a. ⊎-elim (λ b. a .1 ∙ sym (b .1)) (λ b. absurd (b .0 (a .0))) y)
-    (λ a. ⊎-elim (λ b. absurd (a .0 (b .0))) (λ b. h r s (a .1) (b .1)) y) x
+    (λ a. ⊎-elim (λ b. absurd (a .0 (b .0))) (λ b. told-single o r s (a .1) (b .1)) y) x
 
 -- what an order says of r where it begins with the refusal k, for A, and R is what its rest says of r
 abbrev Begins : Type 0 → ℕ → ℕ → Type 0 → Type 0
@@ -51,8 +56,57 @@ pub told-before : {A R : Type 0} {k r first later : ℕ} → 0 < k → Begins A 
     → (r ≡ later → R) → Begins A k r R
 told-before h t b rest = ⊎-elim (λ a. inl (a .0, b .1 (λ e. omega (arith, a .1)) ∙ a .1)) (λ a. inr (a .0, rest (b .0 (a .1)))) t
 
+abbrev pub refusal-of : List Refusal → ℕ → Type 0
+refusal-of [] k = ⊥
+refusal-of (t ∷ o) k = cond (eqb (t .number) k) (t .applies) (refusal-of o k)
+
+abbrev positive : ℕ → Bool
+positive zero = false
+positive (suc n) = true
+
+-- every number of an order is above 0
+abbrev pub numbered : List Refusal → Bool
+numbered [] = true
+numbered (t ∷ o) = both (positive (t .number)) (numbered o)
+
+above-zero : (k : ℕ) → T (positive k) → 0 < k
+above-zero zero h = absurd h
+above-zero (suc n) h = omega arith
+
+-- where an order tells none, its first refusal does not apply, and none of the rest is told
+rest-left : (t : Refusal) (o p : List Refusal) → T (numbered (t ∷ o)) → {r : ℕ} → r ≡ 0 → tells (t ∷ p) r → (t .applies → ⊥) × tells p r × T (numbered o)
+rest-left t o p h e x =
+    let l = told-left (above-zero (t .number) (both-left (positive (t .number)) (numbered o) h)) e x in
+    (l .0, l .1, both-right (positive (t .number)) (numbered o) h)
+
+-- a statement chosen by a test is false where both are
+neither : (b : Bool) (A B : Type 0) → (A → ⊥) → (B → ⊥) → cond b A B → ⊥
+neither true A B f g = f
+neither false A B f g = g
+
+pub not-refused : (o : List Refusal) → T (numbered o) → {r : ℕ} → r ≡ 0 → tells o r → (k : ℕ) → refusal-of o k → ⊥
+not-refused [] h e x k = λ y. y
+not-refused (t ∷ o) h e x k =
+    let l = rest-left t o o h e x in
+    neither (eqb (t .number) k) (t .applies) (refusal-of o k) (l .0) (not-refused o (l .2) e (l .1) k)
+
+-- the refusals of the order o after as many as c has
+abbrev pub after : List Refusal → List Refusal → List Refusal
+after [] o = o
+after (t ∷ c) [] = []
+after (t ∷ c) (u ∷ o) = after c o
+
+pub same-start : (c o p : List Refusal) → T (numbered c) → tells (c ++ after c o) 0 → tells (after c p) 0 → tells (c ++ after c p) 0
+same-start c o p h x y = over c (after c o) (after c p) h x y
+  where
+    over : (c o p : List Refusal) → T (numbered c) → tells (c ++ o) 0 → tells p 0 → tells (c ++ p) 0
+    over [] o p h x y = y
+    over (t ∷ c) o p h x y =
+        let l = rest-left t c (c ++ o) h refl x in
+        inr (l .0, over c o p (l .2) (l .1) y)
+
 -- what it means that refusals 1 and 2 do not apply
-pub good-count : (K : ℕ) → (BadCount K → ⊥) → (0 < K) × (K ≤ payloadMost)
+pub good-count : (K : ℕ) → (badCount K .applies → ⊥) → (0 < K) × (K ≤ payloadMost)
 good-count K h = elim (decLt payloadMost K) [
   | yes l ↦ absurd (h (inr l))
   | no l ↦ elim (ℕ-discrete K 0) [
@@ -61,7 +115,7 @@ good-count K h = elim (decLt payloadMost K) [
   ]
 ]
 
-pub right-bytes : (s : List ℕ) (n : ℕ) → (WrongBytes s n → ⊥) → length s ≡ n
+pub right-bytes : (s : List ℕ) (n : ℕ) → (wrongBytes s n .applies → ⊥) → length s ≡ n
 right-bytes s n h = elim (ℕ-discrete (length s) n) [
   | yes e ↦ e
   | no d ↦ absurd (h d)

@@ -1,14 +1,15 @@
 // Paper 01, 'Refusal numbers': a test for each refusal, which answers its number or 0, and each operation's order of tests.
 ghost use mathlib.Core.Path.{_≡_};
+ghost use mathlib.Core.List.{[], _∷_};
 ghost use Prim.Native.Nat.{ℕ, _+_, _*_, _≤_, _<_};
 ghost use lib.ListN.{length};
-ghost use Rattle.rules.specs.Bits.{need, UnusedSet};
-ghost use Rattle.rules.specs.Refusals.{told, none, BadCount, WrongBytes, BadDelimiter, NoRoom, TooMany, SomeShortened};
-ghost use Rattle.rules.specs.Refusals.{EncodeTold, PieceTold, FinishTold, CompleteTold, WordTold, LineTold};
+ghost use Rattle.rules.specs.Bits.{need};
+ghost use Rattle.rules.specs.Refusals.{tells, badCount, wrongBytes, unusedSet, badDelimiter, noRoom, tooManyWith, tooMany, someShortened};
+ghost use Rattle.rules.specs.Refusals.{encodeOrder, pieceOrder, finishOrder, completeOrder, wordOrder, lineOrder};
 
 // 1: the count of payload bits is 0, or above 14,392.
 fn bad_count(count: usize) -> usize
-    ensures { λ r. ⌜ told (BadCount count) 1 none r ⌝ }
+    ensures { λ r. ⌜ tells (badCount count ∷ []) r ⌝ }
 {
     if count == 0 {
         return 1;
@@ -21,7 +22,7 @@ fn bad_count(count: usize) -> usize
 
 // 2: the bytes given are not exactly the number that a run of so many bits takes.
 fn wrong_bytes(s: &[u8], count: usize) -> usize
-    ensures { λ r. ⌜ told (WrongBytes (now (s .entry)) (need count)) 2 none r ⌝ }
+    ensures { λ r. ⌜ tells (wrongBytes (now (s .entry)) (need count) ∷ []) r ⌝ }
 {
     if s.len() != bits::needed(count) {
         return 2;
@@ -32,7 +33,7 @@ fn wrong_bytes(s: &[u8], count: usize) -> usize
 // 3: an unused high bit is 1. All of them are in the last byte.
 fn unused_set(s: &[u8], count: usize) -> usize
     requires { ⌜ length (now s) ≡ need count ⌝ }
-    ensures { λ r. ⌜ told (UnusedSet (now (s .entry)) count) 3 none r ⌝ }
+    ensures { λ r. ⌜ tells (unusedSet (now (s .entry)) count ∷ []) r ⌝ }
 {
     let used = count % 8;
     if used == 0 {
@@ -48,7 +49,7 @@ fn unused_set(s: &[u8], count: usize) -> usize
 
 // 4: the delimiter is above 1,023.
 fn bad_delimiter(delimiter: usize) -> usize
-    ensures { λ r. ⌜ told (BadDelimiter delimiter) 4 none r ⌝ }
+    ensures { λ r. ⌜ tells (badDelimiter delimiter ∷ []) r ⌝ }
 {
     if 1023 < delimiter {
         return 4;
@@ -58,7 +59,7 @@ fn bad_delimiter(delimiter: usize) -> usize
 
 // 5: the output is shorter than needed.
 fn no_room(room: usize, count: usize) -> usize
-    ensures { λ r. ⌜ told (NoRoom room count) 5 none r ⌝ }
+    ensures { λ r. ⌜ tells (noRoom room count ∷ []) r ⌝ }
 {
     if room < bits::needed(count) {
         return 5;
@@ -69,7 +70,7 @@ fn no_room(room: usize, count: usize) -> usize
 // 6: with b bits more, the stream would hold more than 14,392.
 fn too_many_with(held: usize, count: usize) -> usize
     requires { ⌜ held ≤ 14392 ⌝ }
-    ensures { λ r. ⌜ told (TooMany (held + count)) 6 none r ⌝ }
+    ensures { λ r. ⌜ tells (tooManyWith held count ∷ []) r ⌝ }
 {
     if 14392 - held < count {
         return 6;
@@ -79,7 +80,7 @@ fn too_many_with(held: usize, count: usize) -> usize
 
 // 7: the stream claims more than 14,392 bits.
 fn too_many(held: usize) -> usize
-    ensures { λ r. ⌜ told (TooMany held) 7 none r ⌝ }
+    ensures { λ r. ⌜ tells (tooMany held ∷ []) r ⌝ }
 {
     if 14392 < held {
         return 7;
@@ -99,7 +100,7 @@ fn payload_end(bytes: usize) -> usize
 
 // 8: a shortened place of the word is 1.
 fn shortened_set(count: usize, word: &[u8]) -> usize
-    ensures { λ r. ⌜ told (SomeShortened count (now (word .entry))) 8 none r ⌝ }
+    ensures { λ r. ⌜ tells (someShortened count (now (word .entry)) ∷ []) r ⌝ }
 {
     let end = payload_end(word.len());
     if end <= count {
@@ -124,7 +125,7 @@ fn earlier(first: usize, later: usize) -> usize
 
 // Encode: 1, 2, 3, 4, 5.
 pub fn encode(count: usize, payload: &[u8], delimiter: usize, room: usize) -> usize
-    ensures { λ r. ⌜ EncodeTold count (now (payload .entry)) delimiter room r ⌝ }
+    ensures { λ r. ⌜ tells (encodeOrder count (now (payload .entry)) delimiter room) r ⌝ }
 {
     let first = bad_count(count);
     if first != 0 {
@@ -142,7 +143,7 @@ pub fn encode(count: usize, payload: &[u8], delimiter: usize, room: usize) -> us
 
 // Piece: 7, 2, 3, 6.
 pub fn piece(held: usize, count: usize, bytes: &[u8]) -> usize
-    ensures { λ r. ⌜ PieceTold held count (now (bytes .entry)) r ⌝ }
+    ensures { λ r. ⌜ tells (pieceOrder held count (now (bytes .entry))) r ⌝ }
 {
     let seventh = too_many(held);
     if seventh != 0 {
@@ -159,7 +160,7 @@ pub fn piece(held: usize, count: usize, bytes: &[u8]) -> usize
 
 // Finish: 7, 1, 4, 5.
 pub fn finish(held: usize, delimiter: usize, room: usize) -> usize
-    ensures { λ r. ⌜ FinishTold held delimiter room r ⌝ }
+    ensures { λ r. ⌜ tells (finishOrder held delimiter room) r ⌝ }
 {
     let seventh = too_many(held);
     let first = bad_count(held);
@@ -170,7 +171,7 @@ pub fn finish(held: usize, delimiter: usize, room: usize) -> usize
 
 // Complete: 1, 2, 8.
 pub fn complete(count: usize, word: &[u8]) -> usize
-    ensures { λ r. ⌜ CompleteTold count (now (word .entry)) r ⌝ }
+    ensures { λ r. ⌜ tells (completeOrder count (now (word .entry))) r ⌝ }
 {
     let first = bad_count(count);
     let second = wrong_bytes(word, 17664);
@@ -180,7 +181,7 @@ pub fn complete(count: usize, word: &[u8]) -> usize
 
 // Full-word check: 1, 2.
 pub fn check_word(count: usize, word: &[u8]) -> usize
-    ensures { λ r. ⌜ WordTold count (now (word .entry)) r ⌝ }
+    ensures { λ r. ⌜ tells (wordOrder count (now (word .entry))) r ⌝ }
 {
     let first = bad_count(count);
     let second = wrong_bytes(word, 17664);
@@ -189,7 +190,7 @@ pub fn check_word(count: usize, word: &[u8]) -> usize
 
 // Line check: 1, 2, 3, 4.
 pub fn check_line(count: usize, line: &[u8], delimiter: usize) -> usize
-    ensures { λ r. ⌜ LineTold count (now (line .entry)) delimiter r ⌝ }
+    ensures { λ r. ⌜ tells (lineOrder count (now (line .entry)) delimiter) r ⌝ }
 {
     let first = bad_count(count);
     if first != 0 {

@@ -21,7 +21,7 @@ use Rattle.rules.specs.Bits.{bit, Written}
 use Rattle.rules.specs.Words.{padded, Parity, OwnChecks, tail, tailBits, lineWord, lineBits}
 use Rattle.rules.specs.Verdicts.{WordVerdict, LineVerdict}
 use Rattle.rules.specs.Streams.{fresh, Fed}
-use Rattle.rules.specs.Refusals.{EncodeTold, PieceTold, FinishTold, CompleteTold, WordTold, LineTold}
+use Rattle.rules.specs.Refusals.{tells, encodeOrder, pieceOrder, finishOrder, completeOrder, wordOrder, lineOrder}
 use Rattle.rules.specs.declared.Verdict.{Verdict}
 use Rattle.rules.specs.declared.Answer.{Answer}
 use Rattle.rules.specs.declared.Answer.the-variants.{Done, Refused}
@@ -49,27 +49,27 @@ judged P (judgement.Judged v) = P v
 judged P (judgement.Refused n) = 0 < n
 
 pub record Completed (K : ℕ) (w : List ℕ) (a : Answer) (w′ : List ℕ) : Type 0 where
-  pub told : CompleteTold K w (number a)
+  pub told : tells (completeOrder K w) (number a)
   pub word : by a ((p : List ℕ) × Parity (bit w) p × (w′ ≡ take 1824 w ++ p)) (w′ ≡ w)
 
 pub record WordChecked (K : ℕ) (w : List ℕ) (j : Judgement) : Type 0 where
-  pub told : WordTold K w (refusal j)
+  pub told : tells (wordOrder K w) (refusal j)
   pub verdict : judged (WordVerdict K (bit w)) j
 
 pub record Encoded (K : ℕ) (u : List ℕ) (d : ℕ) (o : List ℕ) (a : Answer) (o′ : List ℕ) : Type 0 where
-  pub told : EncodeTold K u d (length o) (number a)
+  pub told : tells (encodeOrder K u d (length o)) (number a)
   pub line : by a ((p : List ℕ) × Parity (padded K (bit u)) p × Written (lineBits K) (lineWord K (bit u) p d) o o′) (o′ ≡ o)
 
 pub record LineChecked (K : ℕ) (l : List ℕ) (d : ℕ) (j : Judgement) : Type 0 where
-  pub told : LineTold K l d (refusal j)
+  pub told : tells (lineOrder K l d) (refusal j)
   pub verdict : judged (LineVerdict K l d) j
 
 pub record PieceTaken (b : ℕ) (s : List ℕ) (t : Stream) (r : Step) : Type 0 where
-  pub told : PieceTold (t .held) b s (number (r .answer))
+  pub told : tells (pieceOrder (t .held) b s) (number (r .answer))
   pub stream : by (r .answer) (Fed b s t (r .stream)) (r .stream ≡ t)
 
 pub record Finished (d : ℕ) (t : Stream) (o : List ℕ) (r : Step) (o′ : List ℕ) : Type 0 where
-  pub told : FinishTold (t .held) d (length o) (number (r .answer))
+  pub told : tells (finishOrder (t .held) d (length o)) (number (r .answer))
   pub effect :
       by (r .answer)
       ((r .stream ≡ fresh) × (p : List ℕ) × OwnChecks (t .checks) p × Written tailBits (tail p d) o o′)

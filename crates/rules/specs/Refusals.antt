@@ -1,13 +1,14 @@
 -- Paper 01, 'Refusal numbers': when each is given, and the order of each operation. 0 stands for no refusal.
 --
---   told A k rest r    r is k where A holds, and else what rest says
---   none r             r is 0
+--   Refusal      its number, and when it applies
+--   tells o r    r is the number of the first refusal of the order o that applies, or 0 where none does
+--   ofCount K    the refusals of a payload's count, which stand together in every order
 --
 -- Encode: 1, 2, 3, 4, 5. Piece: 7, 2, 3, 6. Finish: 7, 1, 4, 5. Complete: 1, 2, 8. Full-word check: 1, 2. Line check: 1, 2, 3, 4.
 -- Believe this file beside the paper; nothing here is proved.
 use mathlib.Core.Path.{_≡_}
 use mathlib.Core.Logic.{_⊎_}
-use mathlib.Core.List.{List}
+use mathlib.Core.List.{List, [], _∷_, _++_}
 use Prim.Native.Nat.{ℕ, _+_, _<_}
 use lib.ListN.{length}
 use Rattle.rules.specs.Numbers.{payloadMost, delimiterMost}
@@ -15,72 +16,63 @@ use Rattle.rules.specs.Bits.{bit, need, UnusedSet}
 use Rattle.rules.specs.Words.{lineBits, tailBits}
 use Rattle.rules.specs.Verdicts.{ShortenedSet}
 
-abbrev pub told : Type 0 → ℕ → (ℕ → Type 0) → ℕ → Type 0
-told A k rest r = (A × (r ≡ k)) ⊎ ((A → ⊥) × rest r)
+pub record Refusal : Type 1 where
+  pub number : ℕ
+  pub applies : Type 0
 
-abbrev pub none : ℕ → Type 0
-none r = r ≡ 0
+abbrev pub tells : List Refusal → ℕ → Type 0
+tells [] r = r ≡ 0
+tells (t ∷ o) r = (t .applies × (r ≡ t .number)) ⊎ ((t .applies → ⊥) × tells o r)
 
 -- 1: the count of payload bits is 0, or above 14,392
-abbrev pub BadCount : ℕ → Type 0
-BadCount K = (K ≡ 0) ⊎ (payloadMost < K)
+abbrev pub badCount : ℕ → Refusal
+badCount K = record { number = 1; applies = (K ≡ 0) ⊎ (payloadMost < K) }
 
 -- 2: the bytes given are not exactly the number needed
-abbrev pub WrongBytes : List ℕ → ℕ → Type 0
-WrongBytes s n = length s ≡ n → ⊥
+abbrev pub wrongBytes : List ℕ → ℕ → Refusal
+wrongBytes s n = record { number = 2; applies = length s ≡ n → ⊥ }
+
+-- 3: an unused high bit is 1
+abbrev pub unusedSet : List ℕ → ℕ → Refusal
+unusedSet s b = record { number = 3; applies = UnusedSet s b }
 
 -- 4: the delimiter is above 1,023
-abbrev pub BadDelimiter : ℕ → Type 0
-BadDelimiter d = delimiterMost < d
+abbrev pub badDelimiter : ℕ → Refusal
+badDelimiter d = record { number = 4; applies = delimiterMost < d }
 
 -- 5: the output is shorter than needed
-abbrev pub NoRoom : ℕ → ℕ → Type 0
-NoRoom room bits = room < need bits
+abbrev pub noRoom : ℕ → ℕ → Refusal
+noRoom room bits = record { number = 5; applies = room < need bits }
 
--- 6 and 7: more than 14,392 bits
-abbrev pub TooMany : ℕ → Type 0
-TooMany n = payloadMost < n
+-- 6: with b bits more, the stream would hold more than 14,392
+abbrev pub tooManyWith : ℕ → ℕ → Refusal
+tooManyWith held b = record { number = 6; applies = payloadMost < held + b }
+
+-- 7: the stream claims more than 14,392 bits
+abbrev pub tooMany : ℕ → Refusal
+tooMany held = record { number = 7; applies = payloadMost < held }
 
 -- 8: a shortened place is 1
-abbrev pub SomeShortened : ℕ → List ℕ → Type 0
-SomeShortened K w = (n : ℕ) × ShortenedSet K (bit w) n
+abbrev pub someShortened : ℕ → List ℕ → Refusal
+someShortened K w = record { number = 8; applies = (n : ℕ) × ShortenedSet K (bit w) n }
 
-abbrev pub EncodeTold : ℕ → List ℕ → ℕ → ℕ → ℕ → Type 0
-EncodeTold K u d room =
-    told (BadCount K) 1
-    (told (WrongBytes u (need K)) 2
-    (told (UnusedSet u K) 3
-    (told (BadDelimiter d) 4
-    (told (NoRoom room (lineBits K)) 5 none))))
+abbrev pub ofCount : ℕ → List Refusal
+ofCount K = badCount K ∷ []
 
-abbrev pub PieceTold : ℕ → ℕ → List ℕ → ℕ → Type 0
-PieceTold held b s =
-    told (TooMany held) 7
-    (told (WrongBytes s (need b)) 2
-    (told (UnusedSet s b) 3
-    (told (TooMany (held + b)) 6 none)))
+abbrev pub encodeOrder : ℕ → List ℕ → ℕ → ℕ → List Refusal
+encodeOrder K u d room = ofCount K ++ wrongBytes u (need K) ∷ unusedSet u K ∷ badDelimiter d ∷ noRoom room (lineBits K) ∷ []
 
-abbrev pub FinishTold : ℕ → ℕ → ℕ → ℕ → Type 0
-FinishTold held d room =
-    told (TooMany held) 7
-    (told (BadCount held) 1
-    (told (BadDelimiter d) 4
-    (told (NoRoom room tailBits) 5 none)))
+abbrev pub pieceOrder : ℕ → ℕ → List ℕ → List Refusal
+pieceOrder held b s = tooMany held ∷ wrongBytes s (need b) ∷ unusedSet s b ∷ tooManyWith held b ∷ []
 
-abbrev pub CompleteTold : ℕ → List ℕ → ℕ → Type 0
-CompleteTold K w =
-    told (BadCount K) 1
-    (told (WrongBytes w 2208) 2
-    (told (SomeShortened K w) 8 none))
+abbrev pub finishOrder : ℕ → ℕ → ℕ → List Refusal
+finishOrder held d room = tooMany held ∷ ofCount held ++ badDelimiter d ∷ noRoom room tailBits ∷ []
 
-abbrev pub WordTold : ℕ → List ℕ → ℕ → Type 0
-WordTold K w =
-    told (BadCount K) 1
-    (told (WrongBytes w 2208) 2 none)
+abbrev pub completeOrder : ℕ → List ℕ → List Refusal
+completeOrder K w = ofCount K ++ wrongBytes w 2208 ∷ someShortened K w ∷ []
 
-abbrev pub LineTold : ℕ → List ℕ → ℕ → ℕ → Type 0
-LineTold K l d =
-    told (BadCount K) 1
-    (told (WrongBytes l (need (lineBits K))) 2
-    (told (UnusedSet l (lineBits K)) 3
-    (told (BadDelimiter d) 4 none)))
+abbrev pub wordOrder : ℕ → List ℕ → List Refusal
+wordOrder K w = ofCount K ++ wrongBytes w 2208 ∷ []
+
+abbrev pub lineOrder : ℕ → List ℕ → ℕ → List Refusal
+lineOrder K l d = ofCount K ++ wrongBytes l (need (lineBits K)) ∷ unusedSet l (lineBits K) ∷ badDelimiter d ∷ []

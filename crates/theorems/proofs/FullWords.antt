@@ -7,14 +7,14 @@ use mathlib.Core.List.{List}
 use Prim.Native.Nat.{ℕ, _+_, _-_, _*_, _≤_, _<_}
 use native.Mathlib.Decide.{decLt}
 use native.Mathlib.Omega.{arith}
-use mathlib.Core.Logic.{inr, ⊎-elim}
+use mathlib.Core.Logic.{inr}
 use lib.ListN.{length, take, length-append}
 use lib.Seq.{length-take-le}
 use Rattle.rules.specs.Bits.{bit}
 use Rattle.rules.specs.Table.{fibre}
 use Rattle.rules.specs.Words.{fullWord}
 use Rattle.rules.specs.Verdicts.{WordVerdict}
-use Rattle.rules.specs.Refusals.{SomeShortened, WordTold}
+use Rattle.rules.specs.Refusals.{tells, someShortened, ofCount, completeOrder, wordOrder}
 use Rattle.rules.specs.Promises.{Completed, WordChecked}
 use Rattle.rules.specs.declared.Answer.the-variants.{Done}
 use Rattle.rules.specs.declared.Verdict.the-variants.{Accepted}
@@ -23,6 +23,7 @@ use Rattle.rules.specs.declared.Judgement.the-variants.{Judged}
 use Rattle.rules.proofs.Checks.{check-same}
 use Rattle.laws.proofs.Bits.{bit-take, bit-front, bit-back}
 use Rattle.laws.proofs.Runs.{run-low, run-high}
+use Rattle.laws.proofs.Told.{after, same-start}
 use Rattle.laws.proofs.Passed.{complete-passed}
 use Rattle.theorems.proofs.Same.{word-check-same}
 
@@ -30,7 +31,7 @@ module _ (K : ℕ) (w w′ : List ℕ) (c : Completed K w Done w′) where
   abbrev p : List ℕ
   p = c .word .0
 
-  passed : (0 < K) × (K ≤ 14392) × (length w ≡ 2208) × (SomeShortened K w → ⊥)
+  passed : (0 < K) × (K ≤ 14392) × (length w ≡ 2208) × (someShortened K w .applies → ⊥)
   passed = complete-passed refl K w (c .told)
 
   front-length : length (take 1824 w) ≡ 1824
@@ -62,5 +63,7 @@ module _ (K : ℕ) (w w′ : List ℕ) (c : Completed K w Done w′) where
   pub complete-then-check : (j : Judgement) → WordChecked K w′ j → j ≡ Judged Accepted
   complete-then-check j h = word-check-same K w′ j (Judged Accepted) h record { told = not-told; verdict = completed-accepted }
     where
-      not-told : WordTold K w′ 0
-      not-told = inr (λ b. ⊎-elim (λ e. omega (arith, passed .0)) (λ l. omega (arith, passed .1)) b, inr (λ d. d whole-length, refl))
+      not-told : tells (wordOrder K w′) 0
+      not-told =
+          let rest : tells (after (ofCount K) (wordOrder K w′)) 0 = inr (λ d. d whole-length, refl) in
+          same-start (ofCount K) (completeOrder K w) (wordOrder K w′) tt (c .told) rest

@@ -1,4 +1,3 @@
-pub mod Orders
 pub mod Same
 pub mod FullWords
 pub mod Streams

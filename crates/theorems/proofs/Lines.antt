@@ -5,7 +5,7 @@
 --   encode-then-check      what encode writes, the line check accepts with the same payload count and delimiter
 --   accepted-is-encoded    a line word that is accepted is the one that encode writes for its payload
 use mathlib.Core.Path.{_≡_, refl, sym, _∙_}
-use mathlib.Core.Logic.{inr, ⊎-elim}
+use mathlib.Core.Logic.{inr}
 use mathlib.Core.List.{List}
 use Prim.Native.Nat.{ℕ, _+_, _-_, _*_, _≤_, _<_}
 use native.Mathlib.Decide.{decLt, ℕ-discrete}
@@ -18,7 +18,7 @@ use Rattle.rules.specs.Matrix.{AllHold}
 use Rattle.rules.specs.Table.{fibre}
 use Rattle.rules.specs.Words.{padded, fullWord, Parity, tail, lineWord}
 use Rattle.rules.specs.Verdicts.{LineVerdict}
-use Rattle.rules.specs.Refusals.{LineTold}
+use Rattle.rules.specs.Refusals.{tells, ofCount, encodeOrder, lineOrder}
 use Rattle.rules.specs.Promises.{Encoded, LineChecked}
 use Rattle.rules.specs.declared.Answer.the-variants.{Done}
 use Rattle.rules.specs.declared.Verdict.the-variants.{Accepted}
@@ -27,6 +27,7 @@ use Rattle.rules.specs.declared.Judgement.the-variants.{Judged}
 use Rattle.rules.proofs.Checks.{check-same}
 use Rattle.laws.proofs.Bits.{bit<, bit-take, bit-drop, bit-past, bits-same, pack, length-pack, bit-pack}
 use Rattle.laws.proofs.Runs.{run-low, run-high, run-each, run-same, run-below}
+use Rattle.laws.proofs.Told.{after, same-start}
 use Rattle.laws.proofs.Passed.{encode-passed, line-passed}
 use Rattle.laws.proofs.Tails.{tail-low, tail-high}
 use Rattle.parity.proofs.Single.{parity-bits-one}
@@ -145,12 +146,11 @@ module _ (K : ℕ) (u : List ℕ) (d : ℕ) (o o′ : List ℕ) (e : Encoded K u
     | no h ↦ omega (arith, bit-past l (s .0) (omega arith), s .2)
   ]
 
-  not-told : LineTold K l d 0
+  not-told : tells (lineOrder K l d) 0
   not-told =
-      inr (
-        λ b. ⊎-elim (λ z. omega (arith, passed .0)) (λ z. omega (arith, passed .1)) b,
-        inr (λ b. b line-length, inr (unused, inr (λ b. omega (arith, passed .4), refl))),
-      )
+      let rest : tells (after (ofCount K) (lineOrder K l d)) 0 =
+      inr (λ b. b line-length, inr (unused, inr (λ b. omega (arith, passed .4), refl))) in
+      same-start (ofCount K) (encodeOrder K u d (length o)) (lineOrder K l d) tt (e .told) rest
 
   pub encode-then-check : (j : Judgement) → LineChecked K l d j → j ≡ Judged Accepted
   encode-then-check j h = line-check-same K l d j (Judged Accepted) h record { told = not-told; verdict = verdict }

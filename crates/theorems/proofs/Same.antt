@@ -12,7 +12,8 @@ use Rattle.rules.specs.Bits.{bit, Bytes, need, zeros, Written}
 use Rattle.rules.specs.Words.{padded, Parity, OwnChecks, tail, tailBits, lineWord, lineBits}
 use Rattle.rules.specs.Verdicts.{WordVerdict, LineVerdict, TailVerdict, ParityDiffers}
 use Rattle.rules.specs.Streams.{fresh, Fed}
-use Rattle.rules.specs.Promises.{number, Completed, WordChecked, Encoded, LineChecked, PieceTaken, Finished}
+use Rattle.rules.specs.Refusals.{encodeOrder, pieceOrder, finishOrder, completeOrder, wordOrder, lineOrder}
+use Rattle.rules.specs.Promises.{number, refusal, Completed, WordChecked, Encoded, LineChecked, PieceTaken, Finished}
 use Rattle.rules.specs.declared.Answer.{Answer}
 use Rattle.rules.specs.declared.Cause.the-variants as cause
 use Rattle.rules.specs.declared.Verdict.{Verdict}
@@ -22,11 +23,10 @@ use Rattle.rules.specs.declared.Stream.{Stream}
 use Rattle.rules.specs.declared.Step.{Step}
 use Rattle.laws.proofs.Bits.{bits-same, bit-drop}
 use Rattle.laws.proofs.Runs.{run-same}
-use Rattle.laws.proofs.Told.{outcome-same}
+use Rattle.laws.proofs.Told.{told-single, outcome-same}
 use Rattle.laws.proofs.Judged.{word-same, tail-same, judgement-same}
 use Rattle.laws.proofs.Running.{added-same}
 use Rattle.parity.proofs.Single.{own-bits-one, parity-bits-one, payload-one}
-use Rattle.theorems.proofs.Orders.{encode-told-single, piece-told-single, finish-told-single, complete-told-single, word-told-single, line-told-single}
 
 -- the second part of bytes is bytes
 bytes-back : (s t : List ℕ) → Bytes (s ++ t) → Bytes t
@@ -36,7 +36,7 @@ pub complete-same : (K : ℕ) (w : List ℕ) (a b : Answer) (w′ w″ : List �
     → Completed K w a w′ → Completed K w b w″ → (a ≡ b) × (w′ ≡ w″)
 complete-same K w a b w′ w″ h k x y =
     outcome-same Bytes (λ v. (p : List ℕ) × Parity (bit w) p × (v ≡ take 1824 w ++ p)) (λ v. v ≡ w) done (λ o o′ e f. e ∙ sym f) a b w′ w″
-    (complete-told-single K w (number a) (number b) (x .told) (y .told)) h k (x .word) (y .word)
+    (told-single (completeOrder K w) (number a) (number b) (x .told) (y .told)) h k (x .word) (y .word)
   where
     done : (o o′ : List ℕ) → Bytes o → Bytes o′ → (p : List ℕ) × Parity (bit w) p × (o ≡ take 1824 w ++ p)
         → (p : List ℕ) × Parity (bit w) p × (o′ ≡ take 1824 w ++ p) → o ≡ o′
@@ -49,7 +49,7 @@ complete-same K w a b w′ w″ h k x y =
 
 pub word-check-same : (K : ℕ) (w : List ℕ) (j j′ : Judgement) → WordChecked K w j → WordChecked K w j′ → j ≡ j′
 word-check-same K w j j′ x y =
-    judgement-same (WordVerdict K (bit w)) (word-same K (bit w)) j j′ (word-told-single K w _ _ (x .told) (y .told)) (x .verdict) (y .verdict)
+    judgement-same (WordVerdict K (bit w)) (word-same K (bit w)) j j′ (told-single (wordOrder K w) (refusal j) (refusal j′) (x .told) (y .told)) (x .verdict) (y .verdict)
 
 -- what is written is single, where the bits to write are
 written-same : (b : ℕ) (x y : ℕ → ℕ) (s t u : List ℕ) → Bytes t → Bytes u → ((n : ℕ) → n < b → x n ≡ y n) → Written b x s t → Written b y s u → t ≡ u
@@ -71,7 +71,7 @@ pub encode-same : (K : ℕ) (u : List ℕ) (d : ℕ) (o : List ℕ) (a b : Answe
     → Encoded K u d o a o′ → Encoded K u d o b o″ → (a ≡ b) × (o′ ≡ o″)
 encode-same K u d o a b o′ o″ h k x y =
     outcome-same Bytes Line (λ v. v ≡ o) done (λ v v′ e f. e ∙ sym f) a b o′ o″
-    (encode-told-single K u d (length o) (number a) (number b) (x .told) (y .told)) h k (x .line) (y .line)
+    (told-single (encodeOrder K u d (length o)) (number a) (number b) (x .told) (y .told)) h k (x .line) (y .line)
   where
     Line : List ℕ → Type 0
     Line v = (p : List ℕ) × Parity (padded K (bit u)) p × Written (lineBits K) (lineWord K (bit u) p d) o v
@@ -105,7 +105,7 @@ line-same K l d v v′ x y =
 
 pub line-check-same : (K : ℕ) (l : List ℕ) (d : ℕ) (j j′ : Judgement) → LineChecked K l d j → LineChecked K l d j′ → j ≡ j′
 line-check-same K l d j j′ x y =
-    judgement-same (LineVerdict K l d) (line-same K l d) j j′ (line-told-single K l d _ _ (x .told) (y .told)) (x .verdict) (y .verdict)
+    judgement-same (LineVerdict K l d) (line-same K l d) j j′ (told-single (lineOrder K l d) (refusal j) (refusal j′) (x .told) (y .told)) (x .verdict) (y .verdict)
 
 -- a stream is its count and its running checks; a step is its answer and its stream
 pub stream-of : {s t : Stream} → s .held ≡ t .held → s .checks ≡ t .checks → s ≡ t
@@ -120,7 +120,7 @@ piece-same b s t r r′ l h k x y =
     step-of
     (outcome-same (λ (v : Stream). Bytes (v .checks)) (λ v. Fed b s t v) (λ v. v ≡ t) done (λ v v′ e f. e ∙ sym f)
     (r .answer) (r′ .answer) (r .stream) (r′ .stream)
-    (piece-told-single (t .held) b s (number (r .answer)) (number (r′ .answer)) (x .told) (y .told)) h k (x .stream) (y .stream))
+    (told-single (pieceOrder (t .held) b s) (number (r .answer)) (number (r′ .answer)) (x .told) (y .told)) h k (x .stream) (y .stream))
   where
     done : (v v′ : Stream) → Bytes (v .checks) → Bytes (v′ .checks) → Fed b s t v → Fed b s t v′ → v ≡ v′
     done v v′ g g′ p q =
@@ -154,4 +154,4 @@ finish-same d t o r r′ o′ o″ h k x y = (step-of (both .0, ap (λ (v : Left
     both =
         outcome-same (λ (v : Left). Bytes (v .output)) Finish Kept done (λ v v′ e f. ap₂ left (e .0 ∙ sym (f .0)) (e .1 ∙ sym (f .1)))
         (r .answer) (r′ .answer) (left (r .stream) o′) (left (r′ .stream) o″)
-        (finish-told-single (t .held) d (length o) (number (r .answer)) (number (r′ .answer)) (x .told) (y .told)) h k (x .effect) (y .effect)
+        (told-single (finishOrder (t .held) d (length o)) (number (r .answer)) (number (r′ .answer)) (x .told) (y .told)) h k (x .effect) (y .effect)

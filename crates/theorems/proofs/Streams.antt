@@ -17,7 +17,7 @@ use Rattle.rules.specs.Matrix.{check}
 use Rattle.rules.specs.Table.{fibre}
 use Rattle.rules.specs.Words.{padded, tail, lineWord}
 use Rattle.rules.specs.Streams.{fresh, Fed}
-use Rattle.rules.specs.Refusals.{PieceTold}
+use Rattle.rules.specs.Refusals.{tells, pieceOrder}
 use Rattle.rules.specs.Promises.{number, by, Encoded, Finished}
 use Rattle.rules.specs.declared.Answer.{Answer}
 use Rattle.rules.specs.declared.Answer.the-variants.{Done, Refused}
@@ -79,7 +79,7 @@ fed-running {u} {t} {v} b s r fits f bytes = record {
       (λ m l. joined (t .held) b u (bit s) (r .bits) (r .after) (bit< s) m);
 }
 
-taken-running : {u : ℕ → ℕ} {t : Stream} (b : ℕ) (s : List ℕ) (a : Answer) (v : Stream) → Running u t → PieceTold (t .held) b s (number a)
+taken-running : {u : ℕ → ℕ} {t : Stream} (b : ℕ) (s : List ℕ) (a : Answer) (v : Stream) → Running u t → tells (pieceOrder (t .held) b s) (number a)
     → by a (Fed b s t v) (v ≡ t) → Bytes (v .checks) → Running (taken a (t .held) u b s) v
 taken-running {u} {t} b s Done v r told f bytes = fed-running b s r (piece-passed refl (t .held) b s told .2) f bytes
 taken-running {u} {t} b s (Refused n) v r told f bytes = subst (Running u) (sym (f .1)) r

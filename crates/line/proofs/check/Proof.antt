@@ -2,7 +2,7 @@
 use borrow.Author.Needs.{needs}
 use mathlib.Core.Path.{subst}
 use native.Mathlib.Omega.{arith}
-use Rattle.rules.specs.Refusals.{LineTold}
+use Rattle.rules.specs.Refusals.{tells, lineOrder}
 use Rattle.laws.proofs.Passed.{line-passed}
 use Rattle.line.proofs.check.Statement.{statement}
 use Rattle.line.proofs.check.Tie as tie
@@ -23,7 +23,7 @@ returns-2 : tie.Need-returns-2
 returns-2 c =
     let a = c .before .before .before .before .args in
     record {
-      told = subst (LineTold (a .count) (a .line .now) (a .delimiter)) (c .before .if1 .left) (c .before .before .check-line .ensures);
+      told = subst (tells (lineOrder (a .count) (a .line .now) (a .delimiter))) (c .before .if1 .left) (c .before .before .check-line .ensures);
       verdict = c .judge .ensures;
     }
 

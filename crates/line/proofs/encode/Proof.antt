@@ -3,7 +3,7 @@ use borrow.Author.Needs.{needs}
 use mathlib.Core.Path.{subst}
 use native.Mathlib.Omega.{arith}
 use lib.ListN.{length}
-use Rattle.rules.specs.Refusals.{EncodeTold}
+use Rattle.rules.specs.Refusals.{tells, encodeOrder}
 use Rattle.laws.proofs.Passed.{encode-passed}
 use Rattle.line.proofs.encode.Statement.{statement}
 use Rattle.line.proofs.encode.Tie as tie
@@ -45,7 +45,7 @@ returns-2 c =
     let q = c .before .before .before .before .before .before .find-parity in
     record {
       told =
-          subst (EncodeTold (a .count) (a .payload .now) (a .delimiter) (length (a .line .now)))
+          subst (tells (encodeOrder (a .count) (a .payload .now) (a .delimiter) (length (a .line .now))))
           (c .before .before .before .before .before .before .before .before .if1 .left)
           (c .before .before .before .before .before .before .before .before .before .encode .ensures);
       line = (q .last .1 .1 .0, q .ensures, c .before .before .write .ensures);

@@ -4,7 +4,7 @@ use mathlib.Core.Path.{subst}
 use native.Mathlib.Omega.{arith}
 use lib.Dec.{lit≤}
 use lib.ListN.{length}
-use Rattle.rules.specs.Refusals.{FinishTold}
+use Rattle.rules.specs.Refusals.{tells, finishOrder}
 use Rattle.laws.proofs.Passed.{finish-passed}
 use Rattle.writing.proofs.Line.{tail-written}
 use Rattle.stream.proofs.finish.Statement.{statement}
@@ -53,7 +53,7 @@ returns-2 c =
     let p = c .before .before .before .before .before .before .before .before .solve in
     record {
       told =
-          subst (FinishTold (a .stream .held) (a .delimiter) (length (a .line .now)))
+          subst (tells (finishOrder (a .stream .held) (a .delimiter) (length (a .line .now))))
           (c .before .before .before .before .before .before .before .before .before .before .before .before .if1 .left)
           (c .before .before .before .before .before .before .before .before .before .before .before .before .before .finish .ensures);
       effect = (c .begin .ensures, p .last .1 .0, p .ensures, tail-written _ (p .last .1 .0) (a .delimiter) (a .line .now) (w .last .0) (w .ensures));

@@ -2,7 +2,7 @@
 use borrow.Author.Needs.{needs}
 use mathlib.Core.Path.{refl, subst}
 use native.Mathlib.Omega.{arith}
-use Rattle.rules.specs.Refusals.{PieceTold}
+use Rattle.rules.specs.Refusals.{tells, pieceOrder}
 use Rattle.laws.proofs.Passed.{piece-passed}
 use Rattle.stream.proofs.piece.Statement.{statement}
 use Rattle.stream.proofs.piece.Tie as tie
@@ -36,7 +36,7 @@ returns-2 : tie.Need-returns-2
 returns-2 c =
     let a = c .before .before .before .before .before .before .before .args in
     record {
-      told = subst (PieceTold (a .stream .held) (a .count) (a .bytes .now)) (c .before .before .before .before .if1 .left)
+      told = subst (tells (pieceOrder (a .stream .held) (a .count) (a .bytes .now))) (c .before .before .before .before .if1 .left)
           (c .before .before .before .before .before .piece .ensures);
       stream = record { held = refl; checks = c .before .add-piece .ensures };
     }

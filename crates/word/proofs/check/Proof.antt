@@ -1,7 +1,7 @@
 -- `word::check` meets its contract.
 use borrow.Author.Needs.{needs}
 use mathlib.Core.Path.{subst}
-use Rattle.rules.specs.Refusals.{WordTold}
+use Rattle.rules.specs.Refusals.{tells, wordOrder}
 use Rattle.laws.proofs.Passed.{word-passed}
 use Rattle.word.proofs.check.Statement.{statement}
 use Rattle.word.proofs.check.Tie as tie
@@ -22,7 +22,7 @@ returns-2 : tie.Need-returns-2
 returns-2 c =
     let a = c .before .before .before .before .args in
     record {
-      told = subst (WordTold (a .count) (a .word .now)) (c .before .if1 .left) (c .before .before .check-word .ensures);
+      told = subst (tells (wordOrder (a .count) (a .word .now))) (c .before .if1 .left) (c .before .before .check-word .ensures);
       verdict = c .judge .ensures;
     }
 

@@ -4,7 +4,7 @@ use mathlib.Core.Path.{subst}
 use native.Mathlib.Omega.{arith}
 use lib.ListN.{length-take, length-drop}
 use Rattle.rules.specs.Bits.{bit}
-use Rattle.rules.specs.Refusals.{CompleteTold}
+use Rattle.rules.specs.Refusals.{tells, completeOrder}
 use Rattle.laws.proofs.Bits.{mid-rest}
 use Rattle.laws.proofs.Passed.{complete-passed}
 use Rattle.parity.proofs.Single.{payload-found}
@@ -70,7 +70,7 @@ returns-2 c =
     let s = c .before .before .before .before .before .before .add-blocks in
     let p = c .before .before .solve in
     record {
-      told = subst (CompleteTold (a .count) w) (c .before .before .before .before .before .before .before .before .before .if1 .left)
+      told = subst (tells (completeOrder (a .count) w)) (c .before .before .before .before .before .before .before .before .before .if1 .left)
           (c .before .before .before .before .before .before .before .before .before .before .complete .ensures);
       word = (
         p .last .1 .0,
