@@ -12,7 +12,8 @@
  * b / 8 bytes, rounded up. The unused high bits of its
  * last byte are 0.
  *
- * payload     K bits, K from 1 to 14,392
+ * payload     K bits, K from 257 to 14,392: data
+ *             blocks of 257 bits, 1 to 56 of them
  * full word   17,664 bits in 2,208 bytes: the payload,
  *             zeros up to place 14,591 (the shortened
  *             places), then 3,072 parity bits
@@ -42,6 +43,7 @@
  *   3  an unused high bit is 1
  *   4  the delimiter is above 1,023
  *   5  the output is shorter than needed
+ *  10  bits is not a multiple of 257
  * else            not accepted, for a cause:
  *   cause * 2^32 + count * 2^16 + place
  *   1  shortened: a shortened place is 1;
@@ -91,7 +93,7 @@ enum birdovesta_cause {
  * payload_bytes: bits / 8, rounded up.
  * delimiter:     0 to 1,023.
  * line_bytes:    at least BIRDOVESTA_LINE_BYTES(bits).
- * Refusals, in order: 1, 2, 3, 4, 5.
+ * Refusals, in order: 1, 10, 2, 3, 4, 5.
  */
 uint64_t birdovesta_encode(
     size_t bits,
@@ -104,7 +106,7 @@ uint64_t birdovesta_encode(
  * checks hold. Else the cause is shortened or, where no
  * shortened place is 1, check.
  * word_bytes: 2,208.
- * Refusals, in order: 1, 2.
+ * Refusals, in order: 1, 10, 2.
  */
 uint64_t birdovesta_check_word(
     size_t bits,
@@ -116,7 +118,7 @@ uint64_t birdovesta_check_word(
  * parity or, where all sent parity is right, delimiter.
  * line_bytes: exactly BIRDOVESTA_LINE_BYTES(bits).
  * delimiter:  0 to 1,023.
- * Refusals, in order: 1, 2, 3, 4.
+ * Refusals, in order: 1, 10, 2, 3, 4.
  */
 uint64_t birdovesta_check_line(
     size_t bits,

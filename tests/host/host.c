@@ -17,6 +17,9 @@
 enum {
     GUARD = 64,
     MOST = 2304, /* the most bytes lent */
+    LEAST = 257, /* one data block: the least payload */
+    LEAST_BYTES = 33,
+    LEAST_LINE = 354,
     PAYLOAD_MOST = 14392,
     PAYLOAD_PLACES = 14592,
     SENT = 2560
@@ -63,12 +66,12 @@ static void begin(void)
     fill(&line, 170);
 }
 
-/* The line word of K 1, payload byte 0, delimiter 1,023. */
+/* The line word of K 257, all unset, delimiter 1,023. */
 static void put_line_of_zero(struct buffer *buffer)
 {
-    zeros(buffer, 320);
-    lent(buffer)[320] = 0xFE;
-    lent(buffer)[321] = 0x07;
+    zeros(buffer, 352);
+    lent(buffer)[352] = 0xFE;
+    lent(buffer)[353] = 0x07;
 }
 
 /* What is expected later is what is there now. */
@@ -145,19 +148,19 @@ static void full_word_lessons(void)
     begin();
     zeros(&word, BIRDOVESTA_WORD_BYTES);
     nothing_changes();
-    told("all 0, K 1: accepted", check_word(1, 2208), 0);
+    told("all 0, K 257: accepted", check_word(LEAST, 2208), 0);
 
     static const struct {
         size_t place, bits;
         uint64_t cause, at;
         const char *text;
     } lessons[] = {
-        { 0, 1, BIRDOVESTA_CHECK, 176, "bit 0, K 1: check 176" },
-        { 1, 1, BIRDOVESTA_SHORTENED, 1, "bit 1, K 1: shortened 1" },
+        { 0, LEAST, BIRDOVESTA_CHECK, 176, "bit 0, K 257: check 176" },
+        { 257, LEAST, BIRDOVESTA_SHORTENED, 257, "bit 257, K 257: shortened 257" },
         { 14392, 14392, BIRDOVESTA_SHORTENED, 14392, "bit 14392: shortened 14392" },
-        { 14592, 1, BIRDOVESTA_CHECK, 551, "bit 14592, K 1: check 551" },
-        { 255, 256, BIRDOVESTA_CHECK, 175, "bit 255, K 256: check 175" },
-        { 256, 257, BIRDOVESTA_CHECK, 256, "bit 256, K 257: check 256" },
+        { 14592, LEAST, BIRDOVESTA_CHECK, 551, "bit 14592, K 257: check 551" },
+        { 255, LEAST, BIRDOVESTA_CHECK, 175, "bit 255, K 257: check 175" },
+        { 256, LEAST, BIRDOVESTA_CHECK, 256, "bit 256, K 257: check 256" },
         { 14391, 14392, BIRDOVESTA_CHECK, 311, "bit 14391: check 311" },
     };
     for (size_t n = 0; n < sizeof lessons / sizeof *lessons; n++) {
@@ -166,18 +169,18 @@ static void full_word_lessons(void)
     }
 
     one_place(0);
-    uint64_t answer = check_word(1, 2208);
+    uint64_t answer = check_word(LEAST, 2208);
     fact("its parts: check, 0, 176",
         BIRDOVESTA_CAUSE(answer) == BIRDOVESTA_CHECK
             && BIRDOVESTA_COUNT(answer) == 0
             && BIRDOVESTA_PLACE(answer) == 176);
 
     int all = 1;
-    for (size_t place = 1; place < PAYLOAD_PLACES; place++) {
+    for (size_t place = LEAST; place < PAYLOAD_PLACES; place++) {
         one_place(place);
-        all &= check_word(1, 2208) == verdict(BIRDOVESTA_SHORTENED, place) && bytes_right();
+        all &= check_word(LEAST, 2208) == verdict(BIRDOVESTA_SHORTENED, place) && bytes_right();
     }
-    fact("K 1: each shortened place named", all);
+    fact("K 257: each shortened place named", all);
 
     one_place(14591);
     flip(&word, 14392);
@@ -193,9 +196,11 @@ static void full_word_lessons(void)
     told("word, K 0: refusal 1", check_word(0, 2208), 1);
     told("word, K 14393: refusal 1", check_word(14393, 2208), 1);
     told("word, K 0, 0 bytes: refusal 1", check_word(0, 0), 1);
-    told("word of 0 bytes: refusal 2", check_word(1, 0), 2);
-    told("word of 2207 bytes: refusal 2", check_word(1, 2207), 2);
-    told("word of 2209 bytes: refusal 2", check_word(1, 2209), 2);
+    told("word, K 1: refusal 10", check_word(1, 2208), 10);
+    told("word, K 1, 0 bytes: refusal 10", check_word(1, 0), 10);
+    told("word of 0 bytes: refusal 2", check_word(LEAST, 0), 2);
+    told("word of 2207 bytes: refusal 2", check_word(LEAST, 2207), 2);
+    told("word of 2209 bytes: refusal 2", check_word(LEAST, 2209), 2);
 }
 
 /* The encoder */
@@ -203,16 +208,16 @@ static void full_word_lessons(void)
 static void encoder_lessons(void)
 {
     begin();
-    zeros(&payload, 1);
+    zeros(&payload, LEAST_BYTES);
     nothing_changes();
     put_line_of_zero(&line_later);
-    told("K 1, byte 0: 320 of 00, FE 07", encode(1, 1, 1023, 322), 0);
+    told("K 257, all 0: 352 of 00, FE 07", encode(LEAST, LEAST_BYTES, 1023, LEAST_LINE), 0);
 
     begin();
-    zeros(&payload, 1);
+    zeros(&payload, LEAST_BYTES);
     nothing_changes();
     put_line_of_zero(&line_later);
-    told("the same with room to spare", encode(1, 1, 1023, MOST), 0);
+    told("the same with room to spare", encode(LEAST, LEAST_BYTES, 1023, MOST), 0);
 
     begin();
     zeros(&payload, 1799);
@@ -226,6 +231,12 @@ static void encoder_lessons(void)
     nothing_changes();
     told("K 0: refusal 1", encode(0, 0, 0, MOST), 1);
     told("K 14393: refusal 1", encode(14393, 1800, 0, MOST), 1);
+    told("K 1: refusal 10", encode(1, 1, 0, MOST), 10);
+    told("K 256: refusal 10", encode(256, 32, 0, MOST), 10);
+    told("K 258: refusal 10", encode(258, 33, 0, MOST), 10);
+    told("K 1000: refusal 10", encode(1000, 125, 0, MOST), 10);
+    told("K 14391: refusal 10", encode(14391, 1799, 0, MOST), 10);
+    told("K 1, 0 bytes, 1024: refusal 10", encode(1, 0, 1024, 0), 10);
     told("K 14392, room 2120: refusal 5", encode(14392, 1799, 0, 2120), 5);
     told("K 14392, room 0: refusal 5", encode(14392, 1799, 0, 0), 5);
     told("K 14392, 1798 bytes: refusal 2", encode(14392, 1798, 0, 2121), 2);
@@ -234,11 +245,12 @@ static void encoder_lessons(void)
     told("1024, room 2120: refusal 4", encode(14392, 1799, 1024, 2120), 4);
 
     begin();
-    lent(&payload)[0] = 0x02;
+    zeros(&payload, LEAST_BYTES);
+    lent(&payload)[LEAST_BYTES - 1] = 0x02;
     nothing_changes();
-    told("K 1, byte 02, 1024: refusal 3", encode(1, 1, 1024, 322), 3);
-    told("K 1, byte 02, 2 bytes: refusal 2", encode(1, 2, 1024, 322), 2);
-    told("K 0, byte 02, 2 bytes: refusal 1", encode(0, 2, 1024, 0), 1);
+    told("K 257, last byte 02: refusal 3", encode(LEAST, LEAST_BYTES, 1024, LEAST_LINE), 3);
+    told("the same, 34 bytes: refusal 2", encode(LEAST, 34, 1024, LEAST_LINE), 2);
+    told("the same, K 0: refusal 1", encode(0, 34, 1024, 0), 1);
 }
 
 /* Line words */
@@ -253,59 +265,61 @@ static void line_lessons(void)
 {
     line_of_zero();
     nothing_changes();
-    told("320 of 00, FE 07: accepted", check_line(1, 322, 1023), 0);
-    told("against 1022: delimiter 0", check_line(1, 322, 1022), verdict(BIRDOVESTA_DELIMITER, 0));
-    told("against 511: delimiter 9", check_line(1, 322, 511), verdict(BIRDOVESTA_DELIMITER, 9));
+    told("352 of 00, FE 07: accepted", check_line(LEAST, LEAST_LINE, 1023), 0);
+    told("against 1022: delimiter 0", check_line(LEAST, LEAST_LINE, 1022), verdict(BIRDOVESTA_DELIMITER, 0));
+    told("against 511: delimiter 9", check_line(LEAST, LEAST_LINE, 511), verdict(BIRDOVESTA_DELIMITER, 9));
 
     int all = 1;
     for (size_t place = 0; place < SENT; place++) {
         line_of_zero();
-        flip(&line, 1 + place);
+        flip(&line, LEAST + place);
         nothing_changes();
-        all &= check_line(1, 322, 1023) == verdict(BIRDOVESTA_PARITY, place) && bytes_right();
+        all &= check_line(LEAST, LEAST_LINE, 1023) == verdict(BIRDOVESTA_PARITY, place) && bytes_right();
     }
     fact("each parity place named", all);
 
     all = 1;
     for (size_t at = 0; at < 10; at++) {
         line_of_zero();
-        flip(&line, 1 + SENT + at);
+        flip(&line, LEAST + SENT + at);
         nothing_changes();
-        all &= check_line(1, 322, 1023) == verdict(BIRDOVESTA_DELIMITER, at) && bytes_right();
+        all &= check_line(LEAST, LEAST_LINE, 1023) == verdict(BIRDOVESTA_DELIMITER, at) && bytes_right();
     }
     fact("each delimiter bit named", all);
 
     line_of_zero();
-    flip(&line, 1 + 2559);
+    flip(&line, LEAST + 2559);
     nothing_changes();
-    told("parity goes before delimiter", check_line(1, 322, 0), verdict(BIRDOVESTA_PARITY, 2559));
+    told("parity goes before delimiter", check_line(LEAST, LEAST_LINE, 0), verdict(BIRDOVESTA_PARITY, 2559));
 
     line_of_zero();
     nothing_changes();
-    told("line, K 0: refusal 1", check_line(0, 322, 1023), 1);
+    told("line, K 0: refusal 1", check_line(0, LEAST_LINE, 1023), 1);
     told("line, K 14393: refusal 1", check_line(14393, 2121, 1023), 1);
-    told("line, K 0, 321 bytes: refusal 1", check_line(0, 321, 1023), 1);
-    told("line of 0 bytes: refusal 2", check_line(1, 0, 1023), 2);
-    told("line of 321 bytes: refusal 2", check_line(1, 321, 1023), 2);
-    told("line of 323 bytes: refusal 2", check_line(1, 323, 1023), 2);
-    told("line, delimiter 1024: refusal 4", check_line(1, 322, 1024), 4);
+    told("line, K 0, 353 bytes: refusal 1", check_line(0, 353, 1023), 1);
+    told("line, K 258: refusal 10", check_line(258, 354, 1023), 10);
+    told("line, K 1, 0 bytes: refusal 10", check_line(1, 0, 1024), 10);
+    told("line of 0 bytes: refusal 2", check_line(LEAST, 0, 1023), 2);
+    told("line of 353 bytes: refusal 2", check_line(LEAST, 353, 1023), 2);
+    told("line of 355 bytes: refusal 2", check_line(LEAST, 355, 1023), 2);
+    told("line, delimiter 1024: refusal 4", check_line(LEAST, LEAST_LINE, 1024), 4);
 
     line_of_zero();
-    flip(&line, 2571);
+    flip(&line, LEAST + SENT + 10);
     nothing_changes();
-    told("line, unused bit: refusal 3", check_line(1, 322, 1023), 3);
-    told("and delimiter 1024: refusal 3", check_line(1, 322, 1024), 3);
-    told("and 321 bytes: refusal 2", check_line(1, 321, 1024), 2);
+    told("line, unused bit: refusal 3", check_line(LEAST, LEAST_LINE, 1023), 3);
+    told("and delimiter 1024: refusal 3", check_line(LEAST, LEAST_LINE, 1024), 3);
+    told("and 353 bytes: refusal 2", check_line(LEAST, 353, 1024), 2);
 }
 
-/* From the encoder to the check, for each K mod 8 up to the
- * largest K: the payload comes first, the delimiter last,
- * and the check accepts it. The parity of such payloads is
- * not in the paper, so it is taken as written. */
+/* From the encoder to the check, for the 16 largest K, so
+ * for each K mod 8: the payload comes first, the delimiter
+ * last, and the check accepts it. The parity of such payloads
+ * is not in the paper, so it is taken as written. */
 static void there_and_back(void)
 {
     int payloads = 1, delimiters = 1, accepted = 1, others = 1;
-    for (size_t bits = PAYLOAD_MOST - 15; bits <= PAYLOAD_MOST; bits++) {
+    for (size_t bits = PAYLOAD_MOST - 15 * LEAST; bits <= PAYLOAD_MOST; bits += LEAST) {
         size_t bytes = (bits + 7) / 8, delimiter = bits * 77 % 1024;
         size_t needed = BIRDOVESTA_LINE_BYTES(bits);
         begin();

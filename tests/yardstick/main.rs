@@ -14,6 +14,11 @@ use random::Random;
 const SEED: u64 = 142;
 const GUARD: usize = 64;
 
+/// The refusals of each call, in its order.
+const ENCODE: [u64; 6] = [1, 10, 2, 3, 4, 5];
+const WORD: [u64; 3] = [1, 10, 2];
+const LINE: [u64; 5] = [1, 10, 2, 3, 4];
+
 /// How many cases of each kind are tried.
 const FINE_EACH: usize = 16;
 const DAMAGED_EACH: usize = 60;
@@ -46,20 +51,18 @@ struct Reached {
 impl Reached {
     fn new() -> Reached {
         let mut names = vec!["encode written".to_string()];
-        let refusals = [("encode", 5), ("word", 2), ("line", 4)];
+        let orders: [(&str, &[u64]); 3] = [("encode", &ENCODE), ("word", &WORD), ("line", &LINE)];
         for verdict in ["word accepted", "word shortened", "word check"] {
             names.push(verdict.to_string());
         }
         for verdict in ["line accepted", "line parity", "line delimiter"] {
             names.push(verdict.to_string());
         }
-        for (call, last) in refusals {
-            names.extend((1..=last).map(|n| format!("{} refusal {}", call, n)));
+        for (call, order) in orders {
+            names.extend(order.iter().map(|n| format!("{} refusal {}", call, n)));
         }
-        for (call, last) in refusals {
-            for first in 1..=last {
-                names.extend((first + 1..=last).map(|second| before(call, &[first, second])));
-            }
+        for (call, order) in orders {
+            names.extend(sets_of(order).iter().filter(|faults| faults.len() == 2).map(|faults| before(call, faults)));
         }
         for other in ["word shortened before check", "word shortened, checks hold", "line parity before delimiter"] {
             names.push(other.to_string());
@@ -67,7 +70,7 @@ impl Reached {
         for room in ["encode with room to spare", "encode with room one short"] {
             names.push(room.to_string());
         }
-        for (call, _) in refusals {
+        for (call, _) in orders {
             names.extend((0..8).map(|remainder| fine_by_remainder(call, remainder)));
         }
         Reached { counts: names.into_iter().map(|name| (name, 0)).collect() }
@@ -174,14 +177,29 @@ impl Comparison {
         self.judge("line", k, ours, made_for, told, bytes_right);
     }
 
-    /// A payload count with this remainder by 8: one of the least, any, or the largest.
+    /// A payload count with this remainder by 8: the least, any, or the largest. A data block has 1 bit more than
+    /// a multiple of 8, so the remainder is also that of the number of blocks.
     fn count(&mut self, remainder: usize, size: usize) -> usize {
-        let k = match size {
-            0 => remainder + 8 * self.random.below(3),
-            1 => remainder + 8 * self.random.below(PAYLOAD_MOST / 8),
-            _ => PAYLOAD_MOST - (8 - remainder) % 8,
+        let least = if remainder == 0 { 8 } else { remainder };
+        let most = PAYLOAD_MOST / DATA_BLOCK - (8 - remainder) % 8;
+        let blocks = match size {
+            0 => least,
+            1 => least + 8 * self.random.below((most - least) / 8 + 1),
+            _ => most,
         };
-        k.max(if remainder == 0 { 8 } else { 1 })
+        DATA_BLOCK * blocks
+    }
+
+    /// A payload count with a broken block: 1 more or 1 less than whole blocks, blocks of 256 bits, or any.
+    fn broken_count(&mut self) -> usize {
+        let blocks = 1 + self.random.below(PAYLOAD_MOST / DATA_BLOCK - 1);
+        match self.random.below(5) {
+            0 => 1,
+            1 => DATA_BLOCK * blocks + 1,
+            2 => DATA_BLOCK * blocks - 1,
+            3 => (DATA_BLOCK - 1) * blocks,
+            _ => DATA_BLOCK * blocks + 1 + self.random.below(DATA_BLOCK - 1),
+        }
     }
 
     /// Any payload count, each remainder by 8 in turn.
@@ -334,7 +352,8 @@ impl Comparison {
 
     // Refusals: every set of faults, so also every pair whose order could be swapped.
 
-    /// A payload count: a wrong one if faults has 1; one whose run of bits has unused bits if it has 3.
+    /// A payload count: 0 or too large if faults has 1; not of whole data blocks if it has 10, else of whole ones; one
+    /// whose run of bits has unused bits if it has 3.
     fn faulty_count(&mut self, n: usize, faults: &[u64], huge: bool, run: fn(usize) -> usize) -> usize {
         loop {
             let k = if faults.contains(&1) {
@@ -347,11 +366,14 @@ impl Comparison {
                     5 => (1 << 63) + 1 + self.random.below(PAYLOAD_MOST),
                     _ => usize::MAX - self.random.below(3000),
                 }
+            } else if faults.contains(&10) {
+                self.broken_count()
             } else {
                 let n = n + self.random.below(24);
                 self.any_count(n)
             };
-            if !(faults.contains(&3) && run(k) % 8 == 0) {
+            let blocks_as_meant = faults.contains(&10) == (k % DATA_BLOCK != 0);
+            if blocks_as_meant && !(faults.contains(&3) && run(k) % 8 == 0) {
                 return k;
             }
         }
@@ -396,7 +418,7 @@ impl Comparison {
     }
 
     fn refused_encodes(&mut self) {
-        for faults in sets_of(5) {
+        for faults in sets_of(&ENCODE) {
             for n in 0..REFUSED_EACH {
                 let huge = faults.contains(&2) && faults.contains(&5);
                 let k = self.faulty_count(n, &faults, huge, |k| k);
@@ -417,7 +439,7 @@ impl Comparison {
     }
 
     fn refused_words(&mut self) {
-        for faults in sets_of(2) {
+        for faults in sets_of(&WORD) {
             for n in 0..REFUSED_EACH {
                 let k = self.faulty_count(n, &faults, true, |_| PLACES);
                 let word = self.faulty_run(&faults, PLACES);
@@ -430,7 +452,7 @@ impl Comparison {
     }
 
     fn refused_lines(&mut self) {
-        for faults in sets_of(4) {
+        for faults in sets_of(&LINE) {
             for n in 0..REFUSED_EACH {
                 let k = self.faulty_count(n, &faults, faults.contains(&2), line_bits);
                 let line = self.faulty_run(&faults, line_bits(k));
@@ -478,9 +500,10 @@ fn clear_from(bytes: &mut [u8], place: usize) {
     }
 }
 
-/// Every set of refusals 1 to last but the empty one, lowest first.
-fn sets_of(last: u64) -> Vec<Vec<u64>> {
-    (1u64..1 << last).map(|set| (1..=last).filter(|n| set >> (n - 1) & 1 == 1).collect()).collect()
+/// Every set of an order's refusals but the empty one, each set in that order.
+fn sets_of(order: &[u64]) -> Vec<Vec<u64>> {
+    let chosen = |set: u64| order.iter().enumerate().filter(|(n, _)| set >> n & 1 == 1).map(|(_, &k)| k).collect();
+    (1u64..1 << order.len()).map(chosen).collect()
 }
 
 fn main() {

@@ -1,4 +1,4 @@
-//! Paper 01 in plain Rust, by the definitions: what the archive must answer. It shares no code with the
+//! Paper 01, as amended by W4, in plain Rust, by the definitions: what the archive must answer. It shares no code with the
 //! proved crates, has its own copy of Table 142-1, and finds the parity by Gaussian elimination.
 //! It is slow, and unproved.
 //!
@@ -21,6 +21,7 @@ pub const CHECKS: usize = 3072;
 pub const PLACES: usize = 17664;
 pub const PAYLOAD_PLACES: usize = 14592;
 pub const PAYLOAD_MOST: usize = 14392;
+pub const DATA_BLOCK: usize = 257;
 pub const SENT: usize = 2560;
 pub const DELIMITER_BITS: usize = 10;
 pub const DELIMITER_MOST: usize = 1023;
@@ -92,6 +93,17 @@ pub fn line_word(k: usize, word: &[u8], delimiter: usize) -> Vec<u8> {
         put(&mut line, k + SENT + place, (delimiter >> place & 1) as u8);
     }
     line
+}
+
+/// The number by which a payload count is refused, if it is.
+fn refusal_of_count(k: usize) -> Option<u64> {
+    if k == 0 || k > PAYLOAD_MOST {
+        return Some(1);
+    }
+    if k % DATA_BLOCK != 0 {
+        return Some(10);
+    }
+    None
 }
 
 fn unused_set(bytes: &[u8], bits: usize) -> bool {
@@ -192,8 +204,8 @@ impl Code {
     /// The encoder's answer, and the line word where it is written.
     pub fn encode(&self, k: usize, u: &[u8], delimiter: usize, room: usize) -> (Answer, Vec<u8>) {
         let refused = |n| (Answer::Refused(n), Vec::new());
-        if k == 0 || k > PAYLOAD_MOST {
-            return refused(1);
+        if let Some(n) = refusal_of_count(k) {
+            return refused(n);
         }
         if u.len() != bytes_for(k) {
             return refused(2);
@@ -211,8 +223,8 @@ impl Code {
     }
 
     pub fn check_word(&self, k: usize, word: &[u8]) -> Answer {
-        if k == 0 || k > PAYLOAD_MOST {
-            return Answer::Refused(1);
+        if let Some(n) = refusal_of_count(k) {
+            return Answer::Refused(n);
         }
         if word.len() != WORD_BYTES {
             return Answer::Refused(2);
@@ -227,8 +239,8 @@ impl Code {
     }
 
     pub fn check_line(&self, k: usize, line: &[u8], delimiter: usize) -> Answer {
-        if k == 0 || k > PAYLOAD_MOST {
-            return Answer::Refused(1);
+        if let Some(n) = refusal_of_count(k) {
+            return Answer::Refused(n);
         }
         if line.len() != bytes_for(line_bits(k)) {
             return Answer::Refused(2);

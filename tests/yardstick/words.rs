@@ -16,7 +16,8 @@ use std::fs;
 use std::path::PathBuf;
 
 const SEED: u64 = 25;
-const COUNTS: [usize; 10] = [1, 7, 8, 9, 255, 300, 1001, 5144, 14391, 14392];
+/// Whole data blocks: 1, 2, 3, 4, 5, 7, 8, 30, 55 and 56 of them.
+const COUNTS: [usize; 10] = [257, 514, 771, 1028, 1285, 1799, 2056, 7710, 14135, 14392];
 
 struct Maker {
     code: Code,

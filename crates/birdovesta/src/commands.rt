@@ -8,13 +8,18 @@ use console::say;
 use rules::Answer;
 use rules::Stream;
 
+// The BITS of a whole payload, in the commands that take one.
+fn payload_bits() -> Number {
+    numbers::argument(2, b"BITS", b"257 to 14392")
+}
+
 // encode BITS DELIMITER PAYLOAD LINE
 pub fn encode() {
     if os::arg_count() != 6 {
         say::wrong(b"encode needs BITS DELIMITER PAYLOAD LINE", b"", b"");
         return;
     }
-    let Number::Is(bits) = numbers::argument(2, b"BITS", b"1 to 14392") else {
+    let Number::Is(bits) = payload_bits() else {
         return;
     };
     let Number::Is(delimiter) = numbers::argument(3, b"DELIMITER", b"0 to 1023") else {
@@ -57,7 +62,7 @@ pub fn complete() {
         say::wrong(b"complete needs BITS WORD OUT", b"", b"");
         return;
     }
-    let Number::Is(bits) = numbers::argument(2, b"BITS", b"1 to 14392") else {
+    let Number::Is(bits) = payload_bits() else {
         return;
     };
     let mut word = io::buffer();
@@ -75,7 +80,7 @@ pub fn check_word() {
         say::wrong(b"word needs BITS WORD", b"", b"");
         return;
     }
-    let Number::Is(bits) = numbers::argument(2, b"BITS", b"1 to 14392") else {
+    let Number::Is(bits) = payload_bits() else {
         return;
     };
     let mut word = io::buffer();
@@ -93,7 +98,7 @@ pub fn check_line() {
         say::wrong(b"line needs BITS DELIMITER LINE", b"", b"");
         return;
     }
-    let Number::Is(bits) = numbers::argument(2, b"BITS", b"1 to 14392") else {
+    let Number::Is(bits) = payload_bits() else {
         return;
     };
     let Number::Is(delimiter) = numbers::argument(3, b"DELIMITER", b"0 to 1023") else {

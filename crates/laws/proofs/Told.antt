@@ -11,19 +11,20 @@
 --   after c o         the refusals of the order o after its start c
 --   same-start        of two orders that start alike, where one tells none, nor does the other, if what follows its start does not
 --   good-count        a count that is not bad is 1 to 14,392
+--   whole-blocks      a count with no broken block is a multiple of 257
 --   right-bytes       bytes that are not wrong are as many as needed
 --   outcome-same      two outcomes, answer and later contents, are equal, if their numbers are and each case leaves one content only
 use mathlib.Core.Path.{_≡_, refl, sym, ap, _∙_}
 use mathlib.Core.Bool.{Bool, true, false, cond}
 use mathlib.Core.Logic.{_⊎_, inl, inr, ⊎-elim}
 use mathlib.Core.List.{List, [], _∷_, _++_}
-use Prim.Native.Nat.{ℕ, zero, suc, _≤_, _<_}
+use Prim.Native.Nat.{ℕ, zero, suc, _%_, _≤_, _<_}
 use native.Mathlib.Decide.{ℕ-discrete, decLt}
 use native.Mathlib.Omega.{arith}
 use lib.Dec.{T, eqb}
 use lib.ListN.{length}
-use Rattle.rules.specs.Numbers.{payloadMost}
-use Rattle.rules.specs.Refusals.{Refusal, tells, badCount, wrongBytes}
+use Rattle.rules.specs.Numbers.{dataBlock, payloadMost}
+use Rattle.rules.specs.Refusals.{Refusal, tells, badCount, brokenBlock, wrongBytes}
 use Rattle.rules.specs.Promises.{number, by}
 use Rattle.rules.specs.declared.Answer.{Answer}
 use Rattle.rules.specs.declared.Answer.the-variants.{Done, Refused}
@@ -105,7 +106,7 @@ same-start c o p h x y = over c (after c o) (after c p) h x y
         let l = rest-left t c (c ++ o) h refl x in
         inr (l .0, over c o p (l .2) (l .1) y)
 
--- what it means that refusals 1 and 2 do not apply
+-- what it means that refusals 1, 10 and 2 do not apply
 pub good-count : (K : ℕ) → (badCount K .applies → ⊥) → (0 < K) × (K ≤ payloadMost)
 good-count K h = elim (decLt payloadMost K) [
   | yes l ↦ absurd (h (inr l))
@@ -113,6 +114,12 @@ good-count K h = elim (decLt payloadMost K) [
     | yes e ↦ absurd (h (inl e))
     | no d ↦ (omega arith, omega arith)
   ]
+]
+
+pub whole-blocks : (K : ℕ) → (brokenBlock K .applies → ⊥) → K % dataBlock ≡ 0
+whole-blocks K h = elim (ℕ-discrete (K % dataBlock) 0) [
+  | yes e ↦ e
+  | no d ↦ absurd (h d)
 ]
 
 pub right-bytes : (s : List ℕ) (n : ℕ) → (wrongBytes s n .applies → ⊥) → length s ≡ n

@@ -1,4 +1,4 @@
-// The lesson sheet of paper 01, run through the libraries. What a lesson expects is the sheet's.
+// The lesson sheet of paper 01, with the counts of W4 of paper 02, run through the libraries. What a lesson expects is the sheet's.
 use crate::tally;
 use crate::tally::Tally;
 use console::say;
@@ -99,7 +99,7 @@ fn parity_place(place: usize, rows: &[usize]) -> bool {
     let mut checks = [0u8; 384];
     set_all(&mut checks, rows);
     let held = Stream {
-        held: 1,
+        held: 257,
         checks: checks,
     };
     let mut tail = [255u8; 322];
@@ -122,42 +122,45 @@ fn only(place: usize, count: usize) -> Judgement {
 
 fn all_zero() -> bool {
     let word = [0u8; 2208];
-    is_accepted(word::check(1, &word))
+    is_accepted(word::check(257, &word))
 }
 
-// K 1, payload byte 0, delimiter 1,023: 320 bytes of 00, then FE 07.
+// K 257, payload bytes 0, delimiter 1,023: 352 bytes of 00, then FE 07.
 fn least_payload() -> bool {
-    let mut line = [255u8; 322];
-    let answer = line::encode(1, &[0u8], 1023, &mut line);
+    let payload = [0u8; 33];
+    let mut line = [255u8; 354];
+    let answer = line::encode(257, &payload, 1023, &mut line);
     if !is_done(answer) {
         return false;
     }
-    let mut expected = [0u8; 322];
-    expected[320] = 0xFE;
-    expected[321] = 0x07;
+    let mut expected = [0u8; 354];
+    expected[352] = 0xFE;
+    expected[353] = 0x07;
     check::same(&line, &expected)
 }
 
-// Every operation that takes a K refuses this one by 1.
-fn bad_count(count: usize) -> bool {
+// Every operation that takes a K refuses this one by this number.
+fn bad_count(count: usize, number: usize) -> bool {
     let bytes = [0u8; 1800];
     let mut line = [0u8; 2122];
     let mut word = [0u8; 2208];
-    if !is_refused(line::encode(count, &bytes, 0, &mut line), 1) {
+    if !is_refused(line::encode(count, &bytes, 0, &mut line), number) {
         return false;
     }
-    if !is_judged_refused(line::check(count, &line, 0), 1) {
+    if !is_judged_refused(line::check(count, &line, 0), number) {
         return false;
     }
-    if !is_refused(word::complete(count, &mut word), 1) {
+    if !is_refused(word::complete(count, &mut word), number) {
         return false;
     }
-    is_judged_refused(word::check(count, &word), 1)
+    is_judged_refused(word::check(count, &word), number)
 }
 
 fn unused_bit() -> bool {
-    let mut line = [0u8; 322];
-    is_refused(line::encode(1, &[2u8], 1024, &mut line), 3)
+    let mut payload = [0u8; 33];
+    payload[32] = 0x02;
+    let mut line = [0u8; 354];
+    is_refused(line::encode(257, &payload, 1024, &mut line), 3)
 }
 
 // A whole payload of 1,799 bytes, into the room there is.
@@ -186,11 +189,20 @@ fn full_then(count: usize, piece: &[u8]) -> Answer {
     answer
 }
 
-fn fresh_finish() -> bool {
+// What the finish of a stream answers.
+fn finish(stream: Stream, delimiter: usize) -> Answer {
     let mut tail = [0u8; 322];
-    let step = stream::finish(stream::begin(), 1024, &mut tail);
+    let step = stream::finish(stream, delimiter, &mut tail);
     let answer = step.answer;
-    is_refused(answer, 1)
+    answer
+}
+
+// A stream that holds one bit.
+fn one_held() -> Stream {
+    let one = [0u8; 1];
+    let step = stream::piece(stream::begin(), 1, &one);
+    let later = step.stream;
+    later
 }
 
 fn lesson(tally: Tally, is_right: bool, name: &[u8]) -> Tally {
@@ -215,25 +227,34 @@ fn places(tally: Tally) -> Tally {
 
 // Full words.
 fn words(tally: Tally) -> Tally {
-    let a = lesson(tally, all_zero(), b"all 0, K 1\n");
-    let b = lesson(a, is_check(only(0, 1), 176), b"only bit 0, K 1\n");
-    let c = lesson(b, is_shortened(only(1, 1), 1), b"only bit 1, K 1\n");
+    let a = lesson(tally, all_zero(), b"all 0, K 257\n");
+    let b = lesson(a, is_check(only(0, 257), 176), b"only bit 0, K 257\n");
+    let c = lesson(
+        b,
+        is_shortened(only(257, 257), 257),
+        b"only bit 257, K 257\n",
+    );
     let d = lesson(
         c,
         is_shortened(only(14392, 14392), 14392),
         b"only bit 14392, K 14392\n",
     );
-    lesson(d, is_check(only(14592, 1), 551), b"only bit 14592, K 1\n")
+    lesson(
+        d,
+        is_check(only(14592, 257), 551),
+        b"only bit 14592, K 257\n",
+    )
 }
 
 // Line words and refusals.
 fn lines(tally: Tally) -> Tally {
-    let a = lesson(tally, least_payload(), b"K 1, byte 00, delimiter 1023\n");
-    let b = lesson(a, bad_count(0), b"K 0\n");
-    let c = lesson(b, bad_count(14393), b"K 14393\n");
-    let d = lesson(c, unused_bit(), b"K 1, byte 02, delimiter 1024\n");
-    let e = lesson(d, room_enough(), b"K 14392, room 2121\n");
-    lesson(e, room_too_short(), b"K 14392, room 2120\n")
+    let a = lesson(tally, least_payload(), b"K 257, bytes 00, delimiter 1023\n");
+    let b = lesson(a, bad_count(0, 1), b"K 0\n");
+    let c = lesson(b, bad_count(14393, 1), b"K 14393\n");
+    let d = lesson(c, bad_count(1, 10), b"K 1\n");
+    let e = lesson(d, unused_bit(), b"K 257, last 02, delimiter 1024\n");
+    let f = lesson(e, room_enough(), b"K 14392, room 2121\n");
+    lesson(f, room_too_short(), b"K 14392, room 2120\n")
 }
 
 fn streams(tally: Tally) -> Tally {
@@ -249,7 +270,16 @@ fn streams(tally: Tally) -> Tally {
         is_refused(full_then(1, &one), 6),
         b"14392 held, piece of 1\n",
     );
-    lesson(b, fresh_finish(), b"fresh finish, delimiter 1024\n")
+    let c = lesson(
+        b,
+        is_refused(finish(stream::begin(), 1024), 1),
+        b"fresh finish, delimiter 1024\n",
+    );
+    lesson(
+        c,
+        is_refused(finish(one_held(), 1024), 10),
+        b"1 held, finish, delimiter 1024\n",
+    )
 }
 
 // All lessons, a line each.

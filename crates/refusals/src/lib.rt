@@ -1,10 +1,10 @@
-// Paper 01, 'Refusal numbers': a test for each refusal, which answers its number or 0, and each operation's order of tests.
+// Paper 01, 'Refusal numbers', and W4 of paper 02: a test for each refusal, which answers its number or 0, and each operation's order of tests.
 ghost use mathlib.Core.Path.{_≡_};
 ghost use mathlib.Core.List.{[], _∷_};
 ghost use Prim.Native.Nat.{ℕ, _+_, _*_, _≤_, _<_};
 ghost use lib.ListN.{length};
 ghost use Rattle.rules.specs.Bits.{need};
-ghost use Rattle.rules.specs.Refusals.{tells, badCount, wrongBytes, unusedSet, badDelimiter, noRoom, tooManyWith, tooMany, someShortened};
+ghost use Rattle.rules.specs.Refusals.{tells, badCount, wrongBytes, unusedSet, badDelimiter, noRoom, tooManyWith, tooMany, someShortened, brokenBlock};
 ghost use Rattle.rules.specs.Refusals.{encodeOrder, pieceOrder, finishOrder, completeOrder, wordOrder, lineOrder};
 
 // 1: the count of payload bits is 0, or above 14,392.
@@ -113,6 +113,16 @@ fn shortened_set(count: usize, word: &[u8]) -> usize
     0
 }
 
+// 10: the count of payload bits is not a multiple of 257.
+fn broken_block(count: usize) -> usize
+    ensures { λ r. ⌜ tells (brokenBlock count ∷ []) r ⌝ }
+{
+    if count % 257 != 0 {
+        return 10;
+    }
+    0
+}
+
 // The number that an order tells of two tests: the first one's, or else the later one's.
 fn earlier(first: usize, later: usize) -> usize
     ensures { λ r. ⌜ (first ≡ 0 → r ≡ later) × ((first ≡ 0 → ⊥) → r ≡ first) ⌝ }
@@ -123,13 +133,17 @@ fn earlier(first: usize, later: usize) -> usize
     later
 }
 
-// Encode: 1, 2, 3, 4, 5.
+// Encode: 1, 10, 2, 3, 4, 5.
 pub fn encode(count: usize, payload: &[u8], delimiter: usize, room: usize) -> usize
     ensures { λ r. ⌜ tells (encodeOrder count (now (payload .entry)) delimiter room) r ⌝ }
 {
     let first = bad_count(count);
     if first != 0 {
         return first;
+    }
+    let tenth = broken_block(count);
+    if tenth != 0 {
+        return tenth;
     }
     let second = wrong_bytes(payload, count);
     if second != 0 {
@@ -158,43 +172,53 @@ pub fn piece(held: usize, count: usize, bytes: &[u8]) -> usize
     earlier(third, sixth)
 }
 
-// Finish: 7, 1, 4, 5.
+// Finish: 7, 1, 10, 4, 5.
 pub fn finish(held: usize, delimiter: usize, room: usize) -> usize
     ensures { λ r. ⌜ tells (finishOrder held delimiter room) r ⌝ }
 {
     let seventh = too_many(held);
     let first = bad_count(held);
+    let tenth = broken_block(held);
     let fourth = bad_delimiter(delimiter);
     let fifth = no_room(room, 2570);
-    earlier(seventh, earlier(first, earlier(fourth, fifth)))
+    earlier(
+        seventh,
+        earlier(first, earlier(tenth, earlier(fourth, fifth))),
+    )
 }
 
-// Complete: 1, 2, 8.
+// Complete: 1, 10, 2, 8.
 pub fn complete(count: usize, word: &[u8]) -> usize
     ensures { λ r. ⌜ tells (completeOrder count (now (word .entry))) r ⌝ }
 {
     let first = bad_count(count);
+    let tenth = broken_block(count);
     let second = wrong_bytes(word, 17664);
     let eighth = shortened_set(count, word);
-    earlier(first, earlier(second, eighth))
+    earlier(first, earlier(tenth, earlier(second, eighth)))
 }
 
-// Full-word check: 1, 2.
+// Full-word check: 1, 10, 2.
 pub fn check_word(count: usize, word: &[u8]) -> usize
     ensures { λ r. ⌜ tells (wordOrder count (now (word .entry))) r ⌝ }
 {
     let first = bad_count(count);
+    let tenth = broken_block(count);
     let second = wrong_bytes(word, 17664);
-    earlier(first, second)
+    earlier(first, earlier(tenth, second))
 }
 
-// Line check: 1, 2, 3, 4.
+// Line check: 1, 10, 2, 3, 4.
 pub fn check_line(count: usize, line: &[u8], delimiter: usize) -> usize
     ensures { λ r. ⌜ tells (lineOrder count (now (line .entry)) delimiter) r ⌝ }
 {
     let first = bad_count(count);
     if first != 0 {
         return first;
+    }
+    let tenth = broken_block(count);
+    if tenth != 0 {
+        return tenth;
     }
     let second = wrong_bytes(line, count + 2570);
     if second != 0 {

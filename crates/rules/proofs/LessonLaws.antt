@@ -48,16 +48,17 @@ first-check K p n h s l e t = (
 first-shortened : (K : ℕ) → K < 14592 → WordVerdict K (only K) (Rejected (Shortened K))
 first-shortened K h = ((omega arith, h, only-at K), λ m l a. omega arith)
 
-zero-word : WordVerdict 1 zeros Accepted
-zero-word = (λ n a. omega arith, λ n a. omega (arith, check-zeros fibre n, a .1))
+-- whatever the payload count K is
+zero-word : (K : ℕ) → WordVerdict K zeros Accepted
+zero-word K = (λ n a. omega arith, λ n a. omega (arith, check-zeros fibre n, a .1))
 
-bit-zero : WordVerdict 1 (only 0) (Rejected (Check 176))
+bit-zero : (K : ℕ) → 0 < K → WordVerdict K (only 0) (Rejected (Check 176))
 unfolding one entry lines
-bit-zero = first-check 1 0 176 (lit< tt) (λ m a b e. omega arith) (lit< tt) refl tt
+bit-zero K h = first-check K 0 176 (lit< tt) (λ m a b e. omega arith) (lit< tt) refl tt
 
-first-parity : WordVerdict 1 (only 14592) (Rejected (Check 551))
+first-parity : (K : ℕ) → WordVerdict K (only 14592) (Rejected (Check 551))
 unfolding one entry lines
-first-parity = first-check 1 14592 551 (lit< tt) (λ m a b e. omega arith) (lit< tt) refl tt
+first-parity K = first-check K 14592 551 (lit< tt) (λ m a b e. omega arith) (lit< tt) refl tt
 
 pub lessons-right : AllRight lessons
 lessons-right = (
@@ -70,7 +71,7 @@ lessons-right = (
         place-lessons .1 .1 .1 .0,
         (
           place-lessons .1 .1 .1 .1 .0,
-          (zero-word, (bit-zero, (first-shortened 1 (lit< tt), (first-shortened 14392 (lit< tt), (first-parity, tt))))),
+          (zero-word _, (bit-zero _ (lit< tt), (first-shortened _ (lit< tt), (first-shortened _ (lit< tt), (first-parity _, tt))))),
         ),
       ),
     ),

@@ -1,4 +1,4 @@
--- Paper 01, 'Lesson sheet': the ten lessons marked P, in one table, and what it is for a lesson to be right.
+-- Paper 01, 'Lesson sheet', with the counts of W4 of paper 02: the ten lessons marked P, in one table, and what it is for a lesson to be right.
 --
 --   only p        the word that has a 1 at place p alone
 --   place p ns    a lesson: place p is in the checks ns
@@ -43,9 +43,9 @@ lessons =
     place 256 (256 ∷ 677 ∷ 1110 ∷ 1490 ∷ 1930 ∷ 2096 ∷ []) ∷
     place 14391 (311 ∷ 1214 ∷ 2677 ∷ []) ∷
     place 14592 (551 ∷ 1024 ∷ 1633 ∷ []) ∷
-    word zeros 1 Accepted ∷
-    word (only 0) 1 (Rejected (Check 176)) ∷
-    word (only 1) 1 (Rejected (Shortened 1)) ∷
+    word zeros 257 Accepted ∷
+    word (only 0) 257 (Rejected (Check 176)) ∷
+    word (only 257) 257 (Rejected (Shortened 257)) ∷
     word (only 14392) 14392 (Rejected (Shortened 14392)) ∷
-    word (only 14592) 1 (Rejected (Check 551)) ∷
+    word (only 14592) 257 (Rejected (Check 551)) ∷
     []

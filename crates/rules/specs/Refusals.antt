@@ -1,17 +1,18 @@
--- Paper 01, 'Refusal numbers': when each is given, and the order of each operation. 0 stands for no refusal.
+-- Paper 01, 'Refusal numbers', and W4 of paper 02: when each is given, and the order of each operation. 0 stands for no refusal.
 --
 --   Refusal      its number, and when it applies
 --   tells o r    r is the number of the first refusal of the order o that applies, or 0 where none does
 --   ofCount K    the refusals of a payload's count, which stand together in every order
 --
--- Encode: 1, 2, 3, 4, 5. Piece: 7, 2, 3, 6. Finish: 7, 1, 4, 5. Complete: 1, 2, 8. Full-word check: 1, 2. Line check: 1, 2, 3, 4.
+-- Encode: 1, 10, 2, 3, 4, 5. Piece: 7, 2, 3, 6. Finish: 7, 1, 10, 4, 5. Complete: 1, 10, 2, 8. Full-word check: 1, 10, 2.
+-- Line check: 1, 10, 2, 3, 4.
 -- Believe this file beside the paper; nothing here is proved.
 use mathlib.Core.Path.{_≡_}
 use mathlib.Core.Logic.{_⊎_}
 use mathlib.Core.List.{List, [], _∷_, _++_}
-use Prim.Native.Nat.{ℕ, _+_, _<_}
+use Prim.Native.Nat.{ℕ, _+_, _%_, _<_}
 use lib.ListN.{length}
-use Rattle.rules.specs.Numbers.{payloadMost, delimiterMost}
+use Rattle.rules.specs.Numbers.{dataBlock, payloadMost, delimiterMost}
 use Rattle.rules.specs.Bits.{bit, need, UnusedSet}
 use Rattle.rules.specs.Words.{lineBits, tailBits}
 use Rattle.rules.specs.Verdicts.{ShortenedSet}
@@ -56,8 +57,12 @@ tooMany held = record { number = 7; applies = payloadMost < held }
 abbrev pub someShortened : ℕ → List ℕ → Refusal
 someShortened K w = record { number = 8; applies = (n : ℕ) × ShortenedSet K (bit w) n }
 
+-- 10: the count of payload bits is not a multiple of 257
+abbrev pub brokenBlock : ℕ → Refusal
+brokenBlock K = record { number = 10; applies = K % dataBlock ≡ 0 → ⊥ }
+
 abbrev pub ofCount : ℕ → List Refusal
-ofCount K = badCount K ∷ []
+ofCount K = badCount K ∷ brokenBlock K ∷ []
 
 abbrev pub encodeOrder : ℕ → List ℕ → ℕ → ℕ → List Refusal
 encodeOrder K u d room = ofCount K ++ wrongBytes u (need K) ∷ unusedSet u K ∷ badDelimiter d ∷ noRoom room (lineBits K) ∷ []

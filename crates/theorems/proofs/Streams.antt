@@ -2,23 +2,25 @@
 --
 --   running         after any attempts the running checks are those of the bits accepted so far, followed by zeros
 --   cut-alike       two streams that hold the same bits are the same stream
+--   any-cut         a piece of any count is accepted, if its bytes are right and it fits
+--   finish-whole    a finish that is done was of whole data blocks, 257 to 14,392 bits
 --   finish-encodes  the finish writes the tail that encode writes for the whole payload
 --   fresh-again     a finish that is done hands back a fresh stream
 --   second-refused  so that a second finish is refused by 1
 use mathlib.Core.Path.{_≡_, refl, sym, ap, subst, _∙_}
-use mathlib.Core.Logic.{inl, ⊎-elim}
+use mathlib.Core.Logic.{inl, inr, ⊎-elim}
 use mathlib.Core.List.{List}
 use Prim.Native.Nat.{ℕ, zero, suc, _+_, _-_, _%_, _≤_, _<_}
 use native.Mathlib.Omega.{arith}
 use lib.Dec.{lit<, lit≤}
 use lib.ListN.{length, getD, replicate, length-replicate}
-use Rattle.rules.specs.Bits.{bit, Bytes, zeros, run, placed, sum}
+use Rattle.rules.specs.Bits.{bit, Bytes, need, UnusedSet, zeros, run, placed, sum}
 use Rattle.rules.specs.Matrix.{check}
 use Rattle.rules.specs.Table.{fibre}
 use Rattle.rules.specs.Words.{padded, tail, lineWord}
 use Rattle.rules.specs.Streams.{fresh, Fed}
-use Rattle.rules.specs.Refusals.{tells, pieceOrder}
-use Rattle.rules.specs.Promises.{number, by, Encoded, Finished}
+use Rattle.rules.specs.Refusals.{tells, pieceOrder, finishOrder}
+use Rattle.rules.specs.Promises.{number, by, Encoded, PieceTaken, Finished}
 use Rattle.rules.specs.declared.Answer.{Answer}
 use Rattle.rules.specs.declared.Answer.the-variants.{Done, Refused}
 use Rattle.rules.specs.declared.Stream.{Stream}
@@ -26,6 +28,7 @@ use Rattle.rules.specs.declared.Step.{Step}
 use Rattle.rules.proofs.Checks.{check-same, check-sum, check-zeros}
 use Rattle.laws.proofs.Bits.{bit<, bit-zeros, bits-same}
 use Rattle.laws.proofs.Runs.{run-low, run-high, run-each, run-below}
+use Rattle.laws.proofs.Told.{told-single, not-refused, good-count, whole-blocks}
 use Rattle.laws.proofs.Passed.{piece-passed}
 use Rattle.parity.proofs.Single.{payload-own, own-bits-one}
 use Rattle.theorems.proofs.Same.{stream-of, tail-bits}
@@ -110,6 +113,25 @@ cut-alike x y e =
 -- what a done operation leaves
 done-part : (a : Answer) (A B : Type 0) → a ≡ Done → by a A B → A
 done-part a A B e x = subst (λ (a : Answer). by a A B) e x
+
+-- where an order tells none, the answer is done
+none-done : (a : Answer) (A B : Type 0) → number a ≡ 0 → by a A B → a ≡ Done
+none-done Done A B e x = refl
+none-done (Refused n) A B e x = absurd (omega (arith, x .0))
+
+pub any-cut : (b : ℕ) (s : List ℕ) (t : Stream) (r : Step) → length s ≡ need b → (UnusedSet s b → ⊥) → t .held + b ≤ 14392 → PieceTaken b s t r
+    → r .answer ≡ Done
+any-cut b s t r l u h p =
+    let none : tells (pieceOrder (t .held) b s) 0 = inr (λ x. omega arith, inr (λ x. x l, inr (u, inr (λ x. omega arith, refl)))) in
+    none-done (r .answer) _ _ (told-single (pieceOrder (t .held) b s) (number (r .answer)) 0 (p .told) none) (p .stream)
+
+pub finish-whole : (d : ℕ) (t : Stream) (o : List ℕ) (r : Step) (o′ : List ℕ) → r .answer ≡ Done → Finished d t o r o′
+    → (257 ≤ t .held) × (t .held ≤ 14392) × (t .held % 257 ≡ 0)
+finish-whole d t o r o′ e f =
+    let not = not-refused (finishOrder (t .held) d (length o)) tt (ap number e) (f .told) in
+    let k = good-count (t .held) (not 1) in
+    let w : t .held % 257 ≡ 0 = whole-blocks (t .held) (not 10) in
+    (omega (arith, k .0), k .1, w)
 
 -- v is the whole payload, as encode is given it, and l′ what encode wrote of it to l; o′ is what the finish wrote to o
 pub finish-encodes : {u : ℕ → ℕ} {t : Stream} (d : ℕ) (o : List ℕ) (r : Step) (o′ v l l′ : List ℕ) → Reached u t

@@ -16,31 +16,47 @@ returns c =
     let first = c .before in
     told-first (first .bad-count .ensures) (c .if1 .taken)
 
+broken-block-requires : tie.Need-broken-block-requires
+broken-block-requires c κs = search needs
+
+returns-2 : tie.Need-returns-2
+returns-2 c =
+    let tenth = c .before in
+    let passed1 = tenth .before in
+    let first = passed1 .before in
+    told-next (lit< tt) (first .bad-count .ensures) (passed1 .if1 .left)
+    (told-first (tenth .broken-block .ensures) (c .if2 .taken))
+
 add-wrong-bytes : tie.Need-add-wrong-bytes
 add-wrong-bytes c =
-    let a = c .before .before .before .args in
-    omega (arith, good-count (a .count) (told-left (lit< tt) (c .if1 .left) (c .before .bad-count .ensures) .0) .1)
+    let passed1 = c .before .before in
+    let a = passed1 .before .before .before .args in
+    omega (arith, good-count (a .count) (told-left (lit< tt) (passed1 .if1 .left) (passed1 .before .bad-count .ensures) .0) .1)
 
 wrong-bytes-requires : tie.Need-wrong-bytes-requires
 wrong-bytes-requires c κs = search needs
 
-returns-2 : tie.Need-returns-2
-returns-2 c =
+returns-3 : tie.Need-returns-3
+returns-3 c =
     let second = c .before in
-    let passed1 = second .before in
+    let passed2 = second .before in
+    let tenth = passed2 .before in
+    let passed1 = tenth .before in
     let first = passed1 .before in
     told-next (lit< tt) (first .bad-count .ensures) (passed1 .if1 .left)
-    (told-first (second .wrong-bytes .ensures) (c .if2 .taken))
+    (told-next (lit< tt) (tenth .broken-block .ensures) (passed2 .if2 .left)
+    (told-first (second .wrong-bytes .ensures) (c .if3 .taken)))
 
 add-unused-set : tie.Need-add-unused-set
 add-unused-set c =
-    let a = c .before .before .before .before .before .args in
-    omega (arith, good-count (a .count) (told-left (lit< tt) (c .before .before .if1 .left) (c .before .before .before .bad-count .ensures) .0) .1)
+    let passed1 = c .before .before .before .before in
+    let a = passed1 .before .before .before .args in
+    omega (arith, good-count (a .count) (told-left (lit< tt) (passed1 .if1 .left) (passed1 .before .bad-count .ensures) .0) .1)
 
 unused-set-requires : tie.Need-unused-set-requires
 unused-set-requires c κs =
-    let a = c .before .before .before .before .before .args in
-    right-bytes (a .line .now) (need (a .count + 2570)) (told-left (lit< tt) (c .if2 .left) (c .before .wrong-bytes .ensures) .0)
+    let a = c .before .before .before .before .before .before .before .args in
+    right-bytes (a .line .now) (need (a .count + 2570)) (told-left (lit< tt) (c .if3 .left) (c .before .wrong-bytes .ensures) .0)
 
 bad-delimiter-requires : tie.Need-bad-delimiter-requires
 bad-delimiter-requires c κs = search needs
@@ -48,18 +64,21 @@ bad-delimiter-requires c κs = search needs
 earlier-requires : tie.Need-earlier-requires
 earlier-requires c κs = search needs
 
-returns-3 : tie.Need-returns-3
-returns-3 c =
+returns-4 : tie.Need-returns-4
+returns-4 c =
     let fourth = c .before in
     let third = fourth .before in
-    let passed2 = third .before in
-    let second = passed2 .before in
-    let passed1 = second .before in
+    let passed3 = third .before in
+    let second = passed3 .before in
+    let passed2 = second .before in
+    let tenth = passed2 .before in
+    let passed1 = tenth .before in
     let first = passed1 .before in
     told-next (lit< tt) (first .bad-count .ensures) (passed1 .if1 .left)
-    (told-next (lit< tt) (second .wrong-bytes .ensures) (passed2 .if2 .left)
+    (told-next (lit< tt) (tenth .broken-block .ensures) (passed2 .if2 .left)
+    (told-next (lit< tt) (second .wrong-bytes .ensures) (passed3 .if3 .left)
     (told-before (lit< tt) (third .unused-set .ensures) (c .earlier .ensures) (λ e. rw e
-    (fourth .bad-delimiter .ensures))))
+    (fourth .bad-delimiter .ensures)))))
 
 pub check-line-spec : {M : Type 1} → statement M
 check-line-spec =
@@ -67,11 +86,13 @@ check-line-spec =
     (tie.spec
     bad-count-requires
     returns
+    broken-block-requires
+    returns-2
     add-wrong-bytes
     wrong-bytes-requires
-    returns-2
+    returns-3
     add-unused-set
     unused-set-requires
     bad-delimiter-requires
     earlier-requires
-    returns-3)
+    returns-4)
