@@ -11,20 +11,18 @@
 --   after c o         the refusals of the order o after its start c
 --   same-start        of two orders that start alike, where one tells none, nor does the other, if what follows its start does not
 --   good-count        a count that is not bad is 1 to 14,392
---   whole-blocks      a count with no broken block is a multiple of 257
---   right-bytes       bytes that are not wrong are as many as needed
+--   alike             two numbers that do not differ are equal: so with refusals 2 and 10, where they do not apply
 --   outcome-same      two outcomes, answer and later contents, are equal, if their numbers are and each case leaves one content only
 use mathlib.Core.Path.{_≡_, refl, sym, ap, _∙_}
 use mathlib.Core.Bool.{Bool, true, false, cond}
 use mathlib.Core.Logic.{_⊎_, inl, inr, ⊎-elim}
 use mathlib.Core.List.{List, [], _∷_, _++_}
-use Prim.Native.Nat.{ℕ, zero, suc, _%_, _≤_, _<_}
+use Prim.Native.Nat.{ℕ, zero, suc, _≤_, _<_}
 use native.Mathlib.Decide.{ℕ-discrete, decLt}
 use native.Mathlib.Omega.{arith}
 use lib.Dec.{T, eqb}
-use lib.ListN.{length}
-use Rattle.rules.specs.Numbers.{dataBlock, payloadMost}
-use Rattle.rules.specs.Refusals.{Refusal, tells, badCount, brokenBlock, wrongBytes}
+use Rattle.rules.specs.Numbers.{payloadMost}
+use Rattle.rules.specs.Refusals.{Refusal, tells, badCount}
 use Rattle.rules.specs.Promises.{number, by}
 use Rattle.rules.specs.declared.Answer.{Answer}
 use Rattle.rules.specs.declared.Answer.the-variants.{Done, Refused}
@@ -106,7 +104,6 @@ same-start c o p h x y = over c (after c o) (after c p) h x y
         let l = rest-left t c (c ++ o) h refl x in
         inr (l .0, over c o p (l .2) (l .1) y)
 
--- what it means that refusals 1, 10 and 2 do not apply
 pub good-count : (K : ℕ) → (badCount K .applies → ⊥) → (0 < K) × (K ≤ payloadMost)
 good-count K h = elim (decLt payloadMost K) [
   | yes l ↦ absurd (h (inr l))
@@ -116,14 +113,8 @@ good-count K h = elim (decLt payloadMost K) [
   ]
 ]
 
-pub whole-blocks : (K : ℕ) → (brokenBlock K .applies → ⊥) → K % dataBlock ≡ 0
-whole-blocks K h = elim (ℕ-discrete (K % dataBlock) 0) [
-  | yes e ↦ e
-  | no d ↦ absurd (h d)
-]
-
-pub right-bytes : (s : List ℕ) (n : ℕ) → (wrongBytes s n .applies → ⊥) → length s ≡ n
-right-bytes s n h = elim (ℕ-discrete (length s) n) [
+pub alike : (a b : ℕ) → ((a ≡ b → ⊥) → ⊥) → a ≡ b
+alike a b h = elim (ℕ-discrete a b) [
   | yes e ↦ e
   | no d ↦ absurd (h d)
 ]

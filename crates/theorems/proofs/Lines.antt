@@ -8,7 +8,7 @@ use mathlib.Core.Path.{_≡_, refl, sym, _∙_}
 use mathlib.Core.Logic.{inr}
 use mathlib.Core.List.{List}
 use Prim.Native.Nat.{ℕ, _+_, _-_, _*_, _≤_, _<_}
-use native.Mathlib.Decide.{decLt, ℕ-discrete}
+use native.Mathlib.Decide.{decLt}
 use native.Mathlib.Omega.{arith}
 use lib.Dec.{lit<}
 use lib.ListN.{length, getD, take, drop, length-drop, List·getD-eq-default}
@@ -27,7 +27,7 @@ use Rattle.rules.specs.declared.Judgement.the-variants.{Judged}
 use Rattle.rules.proofs.Checks.{check-same}
 use Rattle.laws.proofs.Bits.{bit<, bit-take, bit-drop, bit-past, bits-same, pack, length-pack, bit-pack}
 use Rattle.laws.proofs.Runs.{run-low, run-high, run-each, run-same, run-below}
-use Rattle.laws.proofs.Told.{after, same-start}
+use Rattle.laws.proofs.Told.{after, same-start, alike}
 use Rattle.laws.proofs.Passed.{encode-passed, line-passed}
 use Rattle.laws.proofs.Tails.{tail-low, tail-high}
 use Rattle.parity.proofs.Single.{parity-bits-one}
@@ -40,13 +40,6 @@ parity-as {x} {y} {p} {q} l e h = record {
   bytes = l;
   all-hold = λ n k. sym (check-same fibre n (fullWord x p) (fullWord y q) e) ∙ h .all-hold n k;
 }
-
--- two bits that do not differ are equal
-alike : (a b : ℕ) → ((a ≡ b → ⊥) → ⊥) → a ≡ b
-alike a b h = elim (ℕ-discrete a b) [
-  | yes e ↦ e
-  | no n ↦ absurd (h n)
-]
 
 module _ (K : ℕ) (l : List ℕ) (d : ℕ) where
   pub accepted-completed : LineVerdict K l d Accepted → (q : List ℕ) × Completes K l d q

@@ -28,7 +28,7 @@ use Rattle.rules.specs.declared.Step.{Step}
 use Rattle.rules.proofs.Checks.{check-same, check-sum, check-zeros}
 use Rattle.laws.proofs.Bits.{bit<, bit-zeros, bits-same}
 use Rattle.laws.proofs.Runs.{run-low, run-high, run-each, run-below}
-use Rattle.laws.proofs.Told.{told-single, not-refused, good-count, whole-blocks}
+use Rattle.laws.proofs.Told.{told-single, not-refused, good-count, alike}
 use Rattle.laws.proofs.Passed.{piece-passed}
 use Rattle.parity.proofs.Single.{payload-own, own-bits-one}
 use Rattle.theorems.proofs.Same.{stream-of, tail-bits}
@@ -130,7 +130,7 @@ pub finish-whole : (d : ℕ) (t : Stream) (o : List ℕ) (r : Step) (o′ : List
 finish-whole d t o r o′ e f =
     let not = not-refused (finishOrder (t .held) d (length o)) tt (ap number e) (f .told) in
     let k = good-count (t .held) (not 1) in
-    let w : t .held % 257 ≡ 0 = whole-blocks (t .held) (not 10) in
+    let w : t .held % 257 ≡ 0 = alike (t .held % 257) 0 (not 10) in
     (omega (arith, k .0), k .1, w)
 
 -- v is the whole payload, as encode is given it, and l′ what encode wrote of it to l; o′ is what the finish wrote to o
@@ -144,11 +144,11 @@ finish-encodes {u} {t} d o r o′ v l l′ x same e f w n h =
     let p = w .line in
     let are : (m : ℕ) → m < 3072 → bit (t .checks) m ≡ check fibre m (run 14592 (padded K (bit v)) zeros) =
     λ m k. run-u .checks m k ∙ check-same fibre m u (run 14592 (padded K (bit v)) zeros) (λ i j. sym (held-padded run-u v same i)) in
-    let alike = own-bits-one (t .checks) (q .1) (p .0) (q .2) (payload-own (padded K (bit v)) (t .checks) (p .0) are (p .1)) in
+    let same-parity = own-bits-one (t .checks) (q .1) (p .0) (q .2) (payload-own (padded K (bit v)) (t .checks) (p .0) are (p .1)) in
     let back : K + n - K ≡ n = omega arith in
     q .3 .bits n (omega arith)
     ∙ run-low 2570 (tail (q .1) d) zeros n h
-    ∙ tail-bits (q .1) (p .0) d alike n
+    ∙ tail-bits (q .1) (p .0) d same-parity n
     ∙ sym (p .2 .bits (K + n) (omega arith) ∙ run-low (K + 2570) (lineWord K (bit v) (p .0) d) zeros (K + n) (omega arith) ∙ run-high K (bit v) (tail (p .0) d) (K + n) (omega arith) ∙ rw back)
 
 -- a finish that is done leaves a fresh stream, and a finish of a fresh stream is refused by 1

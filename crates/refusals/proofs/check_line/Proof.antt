@@ -3,8 +3,9 @@ use borrow.Author.Needs.{needs}
 use native.Mathlib.Omega.{arith}
 use Prim.Native.Nat.{_+_}
 use lib.Dec.{lit<}
+use lib.ListN.{length}
 use Rattle.rules.specs.Bits.{need}
-use Rattle.laws.proofs.Told.{told-first, told-left, told-next, told-before, good-count, right-bytes}
+use Rattle.laws.proofs.Told.{told-first, told-left, told-next, told-before, good-count, alike}
 use Rattle.refusals.proofs.check_line.Statement.{statement}
 use Rattle.refusals.proofs.check_line.Tie as tie
 
@@ -56,7 +57,7 @@ add-unused-set c =
 unused-set-requires : tie.Need-unused-set-requires
 unused-set-requires c κs =
     let a = c .before .before .before .before .before .before .before .args in
-    right-bytes (a .line .now) (need (a .count + 2570)) (told-left (lit< tt) (c .if3 .left) (c .before .wrong-bytes .ensures) .0)
+    alike (length (a .line .now)) (need (a .count + 2570)) (told-left (lit< tt) (c .if3 .left) (c .before .wrong-bytes .ensures) .0)
 
 bad-delimiter-requires : tie.Need-bad-delimiter-requires
 bad-delimiter-requires c κs = search needs

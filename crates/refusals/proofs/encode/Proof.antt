@@ -2,8 +2,9 @@
 use borrow.Author.Needs.{needs}
 use native.Mathlib.Omega.{arith}
 use lib.Dec.{lit<}
+use lib.ListN.{length}
 use Rattle.rules.specs.Bits.{need}
-use Rattle.laws.proofs.Told.{told-first, told-left, told-next, told-before, good-count, right-bytes}
+use Rattle.laws.proofs.Told.{told-first, told-left, told-next, told-before, good-count, alike}
 use Rattle.refusals.proofs.encode.Statement.{statement}
 use Rattle.refusals.proofs.encode.Tie as tie
 
@@ -43,7 +44,7 @@ returns-3 c =
 unused-set-requires : tie.Need-unused-set-requires
 unused-set-requires c κs =
     let a = c .before .before .before .before .before .before .before .args in
-    right-bytes (a .payload .now) (need (a .count)) (told-left (lit< tt) (c .if3 .left) (c .before .wrong-bytes .ensures) .0)
+    alike (length (a .payload .now)) (need (a .count)) (told-left (lit< tt) (c .if3 .left) (c .before .wrong-bytes .ensures) .0)
 
 bad-delimiter-requires : tie.Need-bad-delimiter-requires
 bad-delimiter-requires c κs = search needs

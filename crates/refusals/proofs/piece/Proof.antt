@@ -2,8 +2,9 @@
 use borrow.Author.Needs.{needs}
 use native.Mathlib.Omega.{arith}
 use lib.Dec.{lit<}
+use lib.ListN.{length}
 use Rattle.rules.specs.Bits.{need}
-use Rattle.laws.proofs.Told.{told-first, told-left, told-next, told-before, right-bytes}
+use Rattle.laws.proofs.Told.{told-first, told-left, told-next, told-before, alike}
 use Rattle.refusals.proofs.piece.Statement.{statement}
 use Rattle.refusals.proofs.piece.Tie as tie
 
@@ -29,7 +30,7 @@ returns-2 c =
 unused-set-requires : tie.Need-unused-set-requires
 unused-set-requires c κs =
     let a = c .before .before .before .before .before .args in
-    right-bytes (a .bytes .now) (need (a .count)) (told-left (lit< tt) (c .if2 .left) (c .before .wrong-bytes .ensures) .0)
+    alike (length (a .bytes .now)) (need (a .count)) (told-left (lit< tt) (c .if2 .left) (c .before .wrong-bytes .ensures) .0)
 
 too-many-with-requires : tie.Need-too-many-with-requires
 too-many-with-requires c κs =
