@@ -2,10 +2,9 @@
 --
 --   Refusal      its number, and when it applies
 --   tells o r    r is the number of the first refusal of the order o that applies, or 0 where none does
---   ofCount K    the refusals of a payload's count, which stand together in every order
+--   ofCount K    the refusals of a payload's count: 1, 10
+--   xOrder       the order of operation x
 --
--- Encode: 1, 10, 2, 3, 4, 5. Piece: 7, 2, 3, 6. Finish: 7, 1, 10, 4, 5. Complete: 1, 10, 2, 8. Full-word check: 1, 10, 2.
--- Line check: 1, 10, 2, 3, 4.
 -- Believe this file beside the paper; nothing here is proved.
 use mathlib.Core.Path.{_≡_}
 use mathlib.Core.Logic.{_⊎_}
@@ -64,20 +63,26 @@ brokenBlock K = record { number = 10; applies = K % dataBlock ≡ 0 → ⊥ }
 abbrev pub ofCount : ℕ → List Refusal
 ofCount K = badCount K ∷ brokenBlock K ∷ []
 
+-- encode: 1, 10, 2, 3, 4, 5
 abbrev pub encodeOrder : ℕ → List ℕ → ℕ → ℕ → List Refusal
 encodeOrder K u d room = ofCount K ++ wrongBytes u (need K) ∷ unusedSet u K ∷ badDelimiter d ∷ noRoom room (lineBits K) ∷ []
 
+-- piece: 7, 2, 3, 6
 abbrev pub pieceOrder : ℕ → ℕ → List ℕ → List Refusal
 pieceOrder held b s = tooMany held ∷ wrongBytes s (need b) ∷ unusedSet s b ∷ tooManyWith held b ∷ []
 
+-- finish: 7, 1, 10, 4, 5
 abbrev pub finishOrder : ℕ → ℕ → ℕ → List Refusal
 finishOrder held d room = tooMany held ∷ ofCount held ++ badDelimiter d ∷ noRoom room tailBits ∷ []
 
+-- complete: 1, 10, 2, 8
 abbrev pub completeOrder : ℕ → List ℕ → List Refusal
 completeOrder K w = ofCount K ++ wrongBytes w 2208 ∷ someShortened K w ∷ []
 
+-- full-word check: 1, 10, 2
 abbrev pub wordOrder : ℕ → List ℕ → List Refusal
 wordOrder K w = ofCount K ++ wrongBytes w 2208 ∷ []
 
+-- line check: 1, 10, 2, 3, 4
 abbrev pub lineOrder : ℕ → List ℕ → ℕ → List Refusal
 lineOrder K l d = ofCount K ++ wrongBytes l (need (lineBits K)) ∷ unusedSet l (lineBits K) ∷ badDelimiter d ∷ []
