@@ -17,10 +17,11 @@ use mathlib.Core.Path.{_≡_, refl, sym, ap, _∙_}
 use mathlib.Core.Bool.{Bool, true, false, cond}
 use mathlib.Core.Logic.{_⊎_, inl, inr, ⊎-elim}
 use mathlib.Core.List.{List, [], _∷_, _++_}
-use Prim.Native.Nat.{ℕ, zero, suc, _≤_, _<_}
+use Prim.Native.Nat.{ℕ, _≤_, _<_}
 use native.Mathlib.Decide.{ℕ-discrete, decLt}
 use native.Mathlib.Omega.{arith}
-use lib.Dec.{T, eqb}
+use lib.Dec.{T, eqb, ltb, lit<}
+use lib.ListN.{length, drop}
 use Rattle.rules.specs.Numbers.{payloadMost}
 use Rattle.rules.specs.Refusals.{Refusal, tells, badCount}
 use Rattle.rules.specs.Promises.{number, by}
@@ -59,24 +60,17 @@ abbrev pub refusal-of : List Refusal → ℕ → Type 0
 refusal-of [] k = ⊥
 refusal-of (t ∷ o) k = cond (eqb (t .number) k) (t .applies) (refusal-of o k)
 
-abbrev positive : ℕ → Bool
-positive zero = false
-positive (suc n) = true
-
 -- every number of an order is above 0
 abbrev pub numbered : List Refusal → Bool
 numbered [] = true
-numbered (t ∷ o) = both (positive (t .number)) (numbered o)
+numbered (t ∷ o) = both (ltb 0 (t .number)) (numbered o)
 
-above-zero : (k : ℕ) → T (positive k) → 0 < k
-above-zero zero h = absurd h
-above-zero (suc n) h = omega arith
-
--- where an order tells none, its first refusal does not apply, and none of the rest is told
-rest-left : (t : Refusal) (o p : List Refusal) → T (numbered (t ∷ o)) → {r : ℕ} → r ≡ 0 → tells (t ∷ p) r → (t .applies → ⊥) × tells p r × T (numbered o)
+-- told-left, for such an order; what is left is such an order too
+rest-left : (t : Refusal) (o p : List Refusal) → T (numbered (t ∷ o)) → {r : ℕ} → r ≡ 0 → tells (t ∷ p) r
+    → (t .applies → ⊥) × tells p r × T (numbered o)
 rest-left t o p h e x =
-    let l = told-left (above-zero (t .number) (both-left (positive (t .number)) (numbered o) h)) e x in
-    (l .0, l .1, both-right (positive (t .number)) (numbered o) h)
+    let l = told-left (lit< (both-left (ltb 0 (t .number)) (numbered o) h)) e x in
+    (l .0, l .1, both-right (ltb 0 (t .number)) (numbered o) h)
 
 -- a statement chosen by a test is false where both are
 neither : (b : Bool) (A B : Type 0) → (A → ⊥) → (B → ⊥) → cond b A B → ⊥
@@ -89,11 +83,8 @@ not-refused (t ∷ o) h e x k =
     let l = rest-left t o o h e x in
     neither (eqb (t .number) k) (t .applies) (refusal-of o k) (l .0) (not-refused o (l .2) e (l .1) k)
 
--- the refusals of the order o after as many as c has
 abbrev pub after : List Refusal → List Refusal → List Refusal
-after [] o = o
-after (t ∷ c) [] = []
-after (t ∷ c) (u ∷ o) = after c o
+after c o = drop (length c) o
 
 pub same-start : (c o p : List Refusal) → T (numbered c) → tells (c ++ after c o) 0 → tells (after c p) 0 → tells (c ++ after c p) 0
 same-start c o p h x y = over c (after c o) (after c p) h x y

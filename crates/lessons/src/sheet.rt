@@ -1,4 +1,5 @@
-// The lesson sheet of paper 01, with the counts of W4 of paper 02, run through the libraries. What a lesson expects is the sheet's.
+// The lesson sheet of paper 01, with the counts of W4 of paper 02, run through the libraries.
+// What a lesson expects is the sheet's.
 use crate::tally;
 use crate::tally::Tally;
 use console::say;

@@ -1,10 +1,12 @@
-// Paper 01, 'Refusal numbers', and W4 of paper 02: a test for each refusal, which answers its number or 0, and each operation's order of tests.
+// Paper 01, 'Refusal numbers', and W4 of paper 02.
+// A test for each refusal, which answers its number or 0, and each operation's order of tests.
 ghost use mathlib.Core.Path.{_≡_};
 ghost use mathlib.Core.List.{[], _∷_};
 ghost use Prim.Native.Nat.{ℕ, _+_, _*_, _≤_, _<_};
 ghost use lib.ListN.{length};
 ghost use Rattle.rules.specs.Bits.{need};
-ghost use Rattle.rules.specs.Refusals.{tells, badCount, wrongBytes, unusedSet, badDelimiter, noRoom, tooManyWith, tooMany, someShortened, brokenBlock};
+ghost use Rattle.rules.specs.Refusals.{tells, badCount, wrongBytes, unusedSet, badDelimiter, noRoom};
+ghost use Rattle.rules.specs.Refusals.{tooManyWith, tooMany, someShortened, brokenBlock};
 ghost use Rattle.rules.specs.Refusals.{encodeOrder, pieceOrder, finishOrder, completeOrder, wordOrder, lineOrder};
 
 // 1: the count of payload bits is 0, or above 14,392.

@@ -1,4 +1,5 @@
--- Paper 01, 'Lesson sheet', with the counts of W4 of paper 02: the ten lessons marked P, in one table, and what it is for a lesson to be right.
+-- Paper 01, 'Lesson sheet', with the counts of W4 of paper 02.
+-- The ten lessons marked P, in one table, and what it is for a lesson to be right.
 --
 --   only p        the word that has a 1 at place p alone
 --   place p ns    a lesson: place p is in the checks ns

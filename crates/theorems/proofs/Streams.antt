@@ -119,8 +119,8 @@ none-done : (a : Answer) (A B : Type 0) → number a ≡ 0 → by a A B → a �
 none-done Done A B e x = refl
 none-done (Refused n) A B e x = absurd (omega (arith, x .0))
 
-pub any-cut : (b : ℕ) (s : List ℕ) (t : Stream) (r : Step) → length s ≡ need b → (UnusedSet s b → ⊥) → t .held + b ≤ 14392 → PieceTaken b s t r
-    → r .answer ≡ Done
+pub any-cut : (b : ℕ) (s : List ℕ) (t : Stream) (r : Step) → length s ≡ need b → (UnusedSet s b → ⊥) → t .held + b ≤ 14392
+    → PieceTaken b s t r → r .answer ≡ Done
 any-cut b s t r l u h p =
     let none : tells (pieceOrder (t .held) b s) 0 = inr (λ x. omega arith, inr (λ x. x l, inr (u, inr (λ x. omega arith, refl)))) in
     none-done (r .answer) _ _ (told-single (pieceOrder (t .held) b s) (number (r .answer)) 0 (p .told) none) (p .stream)
