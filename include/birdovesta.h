@@ -49,12 +49,13 @@
  *   1  shortened: a shortened place is 1;
  *      the lowest such place
  *   2  check: a check fails;
- *      the lowest failing row, 0 to 3,071
+ *      the lowest failing row, 0 to 3,071, and as
+ *      count how many rows fail, 1 to 3,072
  *   3  parity: a sent parity bit isn't the encoder's;
  *      the lowest such place, 0 to 2,559
  *   4  delimiter: it isn't the one given;
  *      its lowest differing bit, 0 to 9
- *   count is 0.
+ *   Where the cause is no check, count is 0.
  *
  * A refused call leaves every byte as it was. Where
  * several numbers fit, the first in the call's order is

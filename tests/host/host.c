@@ -110,9 +110,9 @@ static void told(const char *text, uint64_t answer, uint64_t expected)
         printf("  some byte is not as it must be\n");
 }
 
-static uint64_t verdict(uint64_t cause, uint64_t place)
+static uint64_t verdict(uint64_t cause, uint64_t count, uint64_t place)
 {
-    return (cause << 32) + place;
+    return (cause << 32) + (count << 16) + place;
 }
 
 /* The three calls, on the three buffers. */
@@ -152,45 +152,52 @@ static void full_word_lessons(void)
 
     static const struct {
         size_t place, bits;
-        uint64_t cause, at;
+        uint64_t cause, count, at;
         const char *text;
     } lessons[] = {
-        { 0, LEAST, BIRDOVESTA_CHECK, 176, "bit 0, K 257: check 176" },
-        { 257, LEAST, BIRDOVESTA_SHORTENED, 257, "bit 257, K 257: shortened 257" },
-        { 14392, 14392, BIRDOVESTA_SHORTENED, 14392, "bit 14392: shortened 14392" },
-        { 14592, LEAST, BIRDOVESTA_CHECK, 551, "bit 14592, K 257: check 551" },
-        { 255, LEAST, BIRDOVESTA_CHECK, 175, "bit 255, K 257: check 175" },
-        { 256, LEAST, BIRDOVESTA_CHECK, 256, "bit 256, K 257: check 256" },
-        { 14391, 14392, BIRDOVESTA_CHECK, 311, "bit 14391: check 311" },
+        { 0, LEAST, BIRDOVESTA_CHECK, 6, 176, "bit 0: check 176 fails 6" },
+        { 257, LEAST, BIRDOVESTA_SHORTENED, 0, 257, "bit 257, K 257: shortened 257" },
+        { 14392, 14392, BIRDOVESTA_SHORTENED, 0, 14392, "bit 14392: shortened 14392" },
+        { 14592, LEAST, BIRDOVESTA_CHECK, 3, 551, "bit 14592: check 551 fails 3" },
+        { 255, LEAST, BIRDOVESTA_CHECK, 6, 175, "bit 255: check 175 fails 6" },
+        { 256, LEAST, BIRDOVESTA_CHECK, 6, 256, "bit 256: check 256 fails 6" },
+        { 14391, 14392, BIRDOVESTA_CHECK, 3, 311, "bit 14391: check 311 fails 3" },
     };
     for (size_t n = 0; n < sizeof lessons / sizeof *lessons; n++) {
         one_place(lessons[n].place);
-        told(lessons[n].text, check_word(lessons[n].bits, 2208), verdict(lessons[n].cause, lessons[n].at));
+        told(lessons[n].text, check_word(lessons[n].bits, 2208),
+            verdict(lessons[n].cause, lessons[n].count, lessons[n].at));
     }
 
     one_place(0);
     uint64_t answer = check_word(LEAST, 2208);
-    fact("its parts: check, 0, 176",
+    fact("its parts: check, 6, 176",
         BIRDOVESTA_CAUSE(answer) == BIRDOVESTA_CHECK
-            && BIRDOVESTA_COUNT(answer) == 0
+            && BIRDOVESTA_COUNT(answer) == 6
             && BIRDOVESTA_PLACE(answer) == 176);
+
+    /* The sheet's rows of places 0 and 255: no two are alike. */
+    one_place(0);
+    flip(&word, 255);
+    nothing_changes();
+    told("bits 0, 255: check 175 fails 12", check_word(LEAST, 2208), verdict(BIRDOVESTA_CHECK, 12, 175));
 
     int all = 1;
     for (size_t place = LEAST; place < PAYLOAD_PLACES; place++) {
         one_place(place);
-        all &= check_word(LEAST, 2208) == verdict(BIRDOVESTA_SHORTENED, place) && bytes_right();
+        all &= check_word(LEAST, 2208) == verdict(BIRDOVESTA_SHORTENED, 0, place) && bytes_right();
     }
     fact("K 257: each shortened place named", all);
 
     one_place(14591);
     flip(&word, 14392);
     nothing_changes();
-    told("of two the lower: shortened 14392", check_word(PAYLOAD_MOST, 2208), verdict(BIRDOVESTA_SHORTENED, 14392));
+    told("of two the lower: shortened 14392", check_word(PAYLOAD_MOST, 2208), verdict(BIRDOVESTA_SHORTENED, 0, 14392));
 
     one_place(14392);
     flip(&word, 0);
     nothing_changes();
-    told("shortened goes before check", check_word(PAYLOAD_MOST, 2208), verdict(BIRDOVESTA_SHORTENED, 14392));
+    told("shortened goes before check", check_word(PAYLOAD_MOST, 2208), verdict(BIRDOVESTA_SHORTENED, 0, 14392));
 
     one_place(0);
     told("word, K 0: refusal 1", check_word(0, 2208), 1);
@@ -266,15 +273,15 @@ static void line_lessons(void)
     line_of_zero();
     nothing_changes();
     told("352 of 00, FE 07: accepted", check_line(LEAST, LEAST_LINE, 1023), 0);
-    told("against 1022: delimiter 0", check_line(LEAST, LEAST_LINE, 1022), verdict(BIRDOVESTA_DELIMITER, 0));
-    told("against 511: delimiter 9", check_line(LEAST, LEAST_LINE, 511), verdict(BIRDOVESTA_DELIMITER, 9));
+    told("against 1022: delimiter 0", check_line(LEAST, LEAST_LINE, 1022), verdict(BIRDOVESTA_DELIMITER, 0, 0));
+    told("against 511: delimiter 9", check_line(LEAST, LEAST_LINE, 511), verdict(BIRDOVESTA_DELIMITER, 0, 9));
 
     int all = 1;
     for (size_t place = 0; place < SENT; place++) {
         line_of_zero();
         flip(&line, LEAST + place);
         nothing_changes();
-        all &= check_line(LEAST, LEAST_LINE, 1023) == verdict(BIRDOVESTA_PARITY, place) && bytes_right();
+        all &= check_line(LEAST, LEAST_LINE, 1023) == verdict(BIRDOVESTA_PARITY, 0, place) && bytes_right();
     }
     fact("each parity place named", all);
 
@@ -283,14 +290,14 @@ static void line_lessons(void)
         line_of_zero();
         flip(&line, LEAST + SENT + at);
         nothing_changes();
-        all &= check_line(LEAST, LEAST_LINE, 1023) == verdict(BIRDOVESTA_DELIMITER, at) && bytes_right();
+        all &= check_line(LEAST, LEAST_LINE, 1023) == verdict(BIRDOVESTA_DELIMITER, 0, at) && bytes_right();
     }
     fact("each delimiter bit named", all);
 
     line_of_zero();
     flip(&line, LEAST + 2559);
     nothing_changes();
-    told("parity goes before delimiter", check_line(LEAST, LEAST_LINE, 0), verdict(BIRDOVESTA_PARITY, 2559));
+    told("parity goes before delimiter", check_line(LEAST, LEAST_LINE, 0), verdict(BIRDOVESTA_PARITY, 0, 2559));
 
     line_of_zero();
     nothing_changes();

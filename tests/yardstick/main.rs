@@ -52,7 +52,10 @@ impl Reached {
     fn new() -> Reached {
         let mut names = vec!["encode written".to_string()];
         let orders: [(&str, &[u64]); 3] = [("encode", &ENCODE), ("word", &WORD), ("line", &LINE)];
-        for verdict in ["word accepted", "word shortened", "word check"] {
+        for verdict in ["word accepted", "word shortened"] {
+            names.push(verdict.to_string());
+        }
+        for verdict in ["word check, 1 row", "word check, more rows", "word check, every row"] {
             names.push(verdict.to_string());
         }
         for verdict in ["line accepted", "line parity", "line delimiter"] {
@@ -96,7 +99,9 @@ fn name_of(call: &str, answer: Answer) -> String {
         Answer::Fine => format!("{} accepted", call),
         Answer::Refused(n) => format!("{} refusal {}", call, n),
         Answer::Shortened(_) => format!("{} shortened", call),
-        Answer::Check(_) => format!("{} check", call),
+        Answer::Check(_, 1) => format!("{} check, 1 row", call),
+        Answer::Check(_, CHECKS) => format!("{} check, every row", call),
+        Answer::Check(_, _) => format!("{} check, more rows", call),
         Answer::Parity(_) => format!("{} parity", call),
         Answer::Delimiter(_) => format!("{} delimiter", call),
     }
@@ -238,6 +243,19 @@ impl Comparison {
         self.code.full_word(k, &u)
     }
 
+    /// A full word of K bits of which these rows fail, and no other.
+    fn failing_word(&mut self, k: usize, rows: &[usize]) -> Vec<u8> {
+        let mut checks = vec![false; CHECKS];
+        for &row in rows {
+            checks[row] = true;
+        }
+        let mut word = self.word_of(k);
+        for (byte, more) in word[PAYLOAD_PLACES / 8..].iter_mut().zip(self.code.parity_with(&checks)) {
+            *byte ^= more;
+        }
+        word
+    }
+
     /// Inverts a few bits of places from..to.
     fn damage(&mut self, bytes: &mut [u8], from: usize, to: usize) {
         for _ in 0..1 + self.random.below(3) {
@@ -281,13 +299,19 @@ impl Comparison {
 
             // one check alone fails
             let row = [0, 1, 255, 256, 2815, 2816, 3071, self.random.below(CHECKS)][n % 8];
-            let mut word = self.word_of(k);
-            let mut checks = vec![false; CHECKS];
-            checks[row] = true;
-            for (byte, more) in word[PAYLOAD_PLACES / 8..].iter_mut().zip(self.code.parity_with(&checks)) {
-                *byte ^= more;
-            }
-            self.check_word(k, &word, Some(Answer::Check(row)));
+            let word = self.failing_word(k, &[row]);
+            self.check_word(k, &word, Some(Answer::Check(row, 1)));
+
+            // all rows from one to another fail: 2, some, or every one
+            let from = [row.min(CHECKS - 2), row, 0][n % 3];
+            let to = [from + 2, row + 1 + self.random.below(CHECKS - row), CHECKS][n % 3];
+            let word = self.failing_word(k, &(from..to).collect::<Vec<_>>());
+            self.check_word(k, &word, Some(Answer::Check(from, to - from)));
+
+            // of some rows, far apart, each fails
+            let rows: Vec<usize> = (row..CHECKS).step_by(1 + self.random.below(CHECKS)).collect();
+            let word = self.failing_word(k, &rows);
+            self.check_word(k, &word, Some(Answer::Check(row, rows.len())));
 
             // shortened, and checks fail: the lowest, the highest, any
             let place = [k, PAYLOAD_PLACES - 1, k + self.random.below(PAYLOAD_PLACES - k)][n % 3];

@@ -32,7 +32,8 @@ pub enum Answer {
     Fine,
     Refused(u64),
     Shortened(usize),
-    Check(usize),
+    /// The lowest failing row, and how many rows fail.
+    Check(usize, usize),
     Parity(usize),
     Delimiter(usize),
 }
@@ -43,7 +44,7 @@ impl Answer {
             Answer::Fine => 0,
             Answer::Refused(n) => n,
             Answer::Shortened(place) => (1 << 32) + place as u64,
-            Answer::Check(row) => (2 << 32) + row as u64,
+            Answer::Check(row, count) => (2 << 32) + ((count as u64) << 16) + row as u64,
             Answer::Parity(place) => (3 << 32) + place as u64,
             Answer::Delimiter(place) => (4 << 32) + place as u64,
         }
@@ -232,8 +233,9 @@ impl Code {
         if let Some(place) = (k..PAYLOAD_PLACES).find(|&place| bit(word, place) == 1) {
             return Answer::Shortened(place);
         }
-        match (0..CHECKS).find(|&check| self.fails(word, check)) {
-            Some(row) => Answer::Check(row),
+        let failing: Vec<usize> = (0..CHECKS).filter(|&check| self.fails(word, check)).collect();
+        match failing.first() {
+            Some(&row) => Answer::Check(row, failing.len()),
             None => Answer::Fine,
         }
     }

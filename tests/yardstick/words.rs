@@ -42,7 +42,7 @@ fn told(answer: Answer) -> String {
         Answer::Fine => "accepted".to_string(),
         Answer::Refused(n) => format!("refusal {}", n),
         Answer::Shortened(place) => format!("shortened {}", place),
-        Answer::Check(row) => format!("check {}", row),
+        Answer::Check(row, count) => format!("check {} fails {}", row, count),
         Answer::Parity(place) => format!("parity {}", place),
         Answer::Delimiter(place) => format!("delimiter {}", place),
     }

@@ -27,10 +27,17 @@ pub fn refusal(number: usize) {
     fact(b"refusal ", number);
 }
 
+// The lowest failing row, and how many rows fail, as `check 176 fails 6`.
+fn check(row: usize, count: usize) {
+    io::write_all(STDOUT_FILENO, b"check ");
+    io::print_decimal(STDOUT_FILENO, row as u64);
+    fact(b" fails ", count);
+}
+
 fn cause(cause: Cause) {
     match cause {
         Cause::Shortened(place) => fact(b"shortened ", place),
-        Cause::Check(row) => fact(b"check ", row),
+        Cause::Check { row, count } => check(row, count),
         Cause::Parity(place) => fact(b"parity ", place),
         Cause::Delimiter(bit) => fact(b"delimiter ", bit),
     }

@@ -1,9 +1,10 @@
 -- The numbers that the C host is answered.
 --
---   causeNumber c       cause x 2^32 + count x 2^16 + place, with cause 1 shortened, 2 check, 3 parity, 4 delimiter; the count is 0
+--   causeNumber c       cause x 2^32 + count x 2^16 + place, with cause 1 shortened, 2 check, 3 parity, 4 delimiter; the count is that
+--                       of failing rows, and 0 where the cause is no check
 --   verdictNumber v     0 for accepted
 --   judgementNumber j   the refusal's number, or the verdict's
---   JudgementFits j     its place is below 2^16, as every place of a word is
+--   JudgementFits j     its place and its count are below 2^16, as those of every word are
 --   HostEncoded ..      what birdovesta_encode promises
 --   HostWord ..         what birdovesta_check_word promises
 --   HostLine ..         what birdovesta_check_line promises
@@ -23,7 +24,7 @@ use Rattle.rules.specs.declared.Judgement.the-variants.{Judged, Refused}
 
 abbrev pub causeNumber : Cause → ℕ
 causeNumber (Shortened n) = 1 * 2 ^ 32 + n
-causeNumber (Check n) = 2 * 2 ^ 32 + n
+causeNumber (Check n m) = 2 * 2 ^ 32 + m * 2 ^ 16 + n
 causeNumber (Parity n) = 3 * 2 ^ 32 + n
 causeNumber (Delimiter n) = 4 * 2 ^ 32 + n
 
@@ -35,10 +36,10 @@ abbrev pub judgementNumber : Judgement → ℕ
 judgementNumber (Judged v) = verdictNumber v
 judgementNumber (Refused n) = n
 
--- places below 2^16, so that a count has room above them
+-- each below 2^16, so that no two causes share a number
 abbrev pub CauseFits : Cause → Type 0
 CauseFits (Shortened n) = n < 2 ^ 16
-CauseFits (Check n) = n < 2 ^ 16
+CauseFits (Check n m) = (n < 2 ^ 16) × (m < 2 ^ 16)
 CauseFits (Parity n) = n < 2 ^ 16
 CauseFits (Delimiter n) = n < 2 ^ 16
 

@@ -24,7 +24,7 @@ fn cause_number(cause: Cause) -> u64
 {
     match cause {
         Cause::Shortened(place) => 0x1_0000_0000 + place as u64,
-        Cause::Check(row) => 0x2_0000_0000 + row as u64,
+        Cause::Check { row, count } => 0x2_0000_0000 + count as u64 * 0x1_0000 + row as u64,
         Cause::Parity(place) => 0x3_0000_0000 + place as u64,
         Cause::Delimiter(bit) => 0x4_0000_0000 + bit as u64,
     }

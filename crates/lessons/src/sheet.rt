@@ -1,4 +1,4 @@
-// The lesson sheet of paper 01, with the counts of W4 of paper 02, run through the libraries.
+// The lesson sheet of paper 01, with what W3 and W4 of paper 02 change, run through the libraries.
 // What a lesson expects is the sheet's.
 use crate::tally;
 use crate::tally::Tally;
@@ -46,17 +46,21 @@ fn is_shortened(judgement: Judgement, place: usize) -> bool {
     told == place
 }
 
-fn is_check(judgement: Judgement, row: usize) -> bool {
+fn is_check(judgement: Judgement, row: usize, count: usize) -> bool {
     let Judgement::Judged(verdict) = judgement else {
         return false;
     };
     let Verdict::Rejected(cause) = verdict else {
         return false;
     };
-    let Cause::Check(told) = cause else {
+    let Cause::Check {
+        row: told,
+        count: fail,
+    } = cause
+    else {
         return false;
     };
-    told == row
+    told == row && fail == count
 }
 
 fn is_judged_refused(judgement: Judgement, number: usize) -> bool {
@@ -229,7 +233,7 @@ fn places(tally: Tally) -> Tally {
 // Full words.
 fn words(tally: Tally) -> Tally {
     let a = lesson(tally, all_zero(), b"all 0, K 257\n");
-    let b = lesson(a, is_check(only(0, 257), 176), b"only bit 0, K 257\n");
+    let b = lesson(a, is_check(only(0, 257), 176, 6), b"only bit 0, K 257\n");
     let c = lesson(
         b,
         is_shortened(only(257, 257), 257),
@@ -242,7 +246,7 @@ fn words(tally: Tally) -> Tally {
     );
     lesson(
         d,
-        is_check(only(14592, 257), 551),
+        is_check(only(14592, 257), 551, 3),
         b"only bit 14592, K 257\n",
     )
 }

@@ -3,20 +3,21 @@
 --   lessons-right    the single claim
 --
 -- The places' lessons are computed. A word with a single 1 has, as its checks, that place's column of the matrix.
-use mathlib.Core.Path.{_≡_, refl, sym, _∙_}
+use mathlib.Core.Path.{_≡_, refl, sym, ap, _∙_}
 use Prim.Native.Nat.{ℕ, _<_, _≤_}
 use native.Mathlib.Omega.{arith}
 use lib.ListN.{take}
 use lib.Dec.{T, eqb, eqb→eq, lit<}
 use borrow.Author.Tests.{eq-eqb, ne-eqb}
 use Rattle.rules.specs.Bits.{zeros}
-use Rattle.rules.specs.Matrix.{entry, one, check, checksOf}
+use Rattle.rules.specs.Matrix.{entry, one, total, check, checksOf}
 use Rattle.rules.specs.Table.{lines, fibre}
-use Rattle.rules.specs.Verdicts.{WordVerdict}
+use Rattle.rules.specs.Verdicts.{howMany, failing, WordVerdict}
 use Rattle.rules.specs.Lessons.{only, AllRight, lessons}
 use Rattle.rules.specs.declared.Cause.the-variants.{Shortened, Check}
 use Rattle.rules.specs.declared.Verdict.the-variants.{Accepted, Rejected}
 use Rattle.rules.proofs.Tests.{every, every-at}
+use Rattle.rules.proofs.Counting.{howMany-same}
 use Rattle.rules.proofs.Checks.{check-zeros, check-single}
 
 -- the lessons on places, each by computing the whole column
@@ -33,15 +34,21 @@ only-at p = rw (eq-eqb p p refl)
 check-only : (n p : ℕ) → p < 17664 → check fibre n (only p) ≡ one fibre n p
 check-only n p h = check-single fibre n p (only p) h (only-at p) (λ q l d. only-elsewhere p q d)
 
+-- the rows that fail where place p alone is 1 are those that p is in
+failing-only : (p : ℕ) → p < 17664 → failing (only p) ≡ howMany 3072 (λ m. eqb (one fibre m p) 1)
+failing-only p h = howMany-same 3072 _ _ (λ m l. ap (λ (x : ℕ). eqb x 1) (check-only m p h))
+
 -- a 1 at place p, which is not shortened, fails the checks of p: first n, where p is in none below n
-first-check : (K p n : ℕ) → p < 17664 → ((m : ℕ) → K ≤ m → m < 14592 → m ≡ p → ⊥) → n < 3072 → one fibre n p ≡ 1
-    → T (every n (λ m. eqb (one fibre m p) 0)) → WordVerdict K (only p) (Rejected (Check n))
-first-check K p n h s l e t = (
+first-check : (K p n k : ℕ) → p < 17664 → ((m : ℕ) → K ≤ m → m < 14592 → m ≡ p → ⊥) → n < 3072 → one fibre n p ≡ 1
+    → T (every n (λ m. eqb (one fibre m p) 0)) → k ≡ howMany 3072 (λ m. eqb (one fibre m p) 1)
+    → WordVerdict K (only p) (Rejected (Check n k))
+first-check K p n k h s l e t c = (
   (λ m a. let z : only p m ≡ 0 = only-elsewhere p m (s m (a .0) (a .1)) in omega arith),
   (
     (l, check-only n p h ∙ e),
-    λ m k a. omega (arith, sym (check-only m p h) ∙ a .1, eqb→eq (one fibre m p) 0 (every-at n (λ m. eqb (one fibre m p) 0) t m k)),
+    λ m j a. omega (arith, sym (check-only m p h) ∙ a .1, eqb→eq (one fibre m p) 0 (every-at n (λ m. eqb (one fibre m p) 0) t m j)),
   ),
+  c ∙ sym (failing-only p h),
 )
 
 -- a 1 at place K, the first shortened one
@@ -52,13 +59,13 @@ first-shortened K h = ((omega arith, h, only-at K), λ m l a. omega arith)
 zero-word : (K : ℕ) → WordVerdict K zeros Accepted
 zero-word K = (λ n a. omega arith, λ n a. omega (arith, check-zeros fibre n, a .1))
 
-bit-zero : (K : ℕ) → 0 < K → WordVerdict K (only 0) (Rejected (Check 176))
-unfolding one entry lines
-bit-zero K h = first-check K 0 176 (lit< tt) (λ m a b e. omega arith) (lit< tt) refl tt
+bit-zero : (K : ℕ) → 0 < K → WordVerdict K (only 0) (Rejected (Check 176 6))
+unfolding total one entry lines
+bit-zero K h = first-check K 0 176 6 (lit< tt) (λ m a b e. omega arith) (lit< tt) refl tt refl
 
-first-parity : (K : ℕ) → WordVerdict K (only 14592) (Rejected (Check 551))
-unfolding one entry lines
-first-parity K = first-check K 14592 551 (lit< tt) (λ m a b e. omega arith) (lit< tt) refl tt
+first-parity : (K : ℕ) → WordVerdict K (only 14592) (Rejected (Check 551 3))
+unfolding total one entry lines
+first-parity K = first-check K 14592 551 3 (lit< tt) (λ m a b e. omega arith) (lit< tt) refl tt refl
 
 pub lessons-right : AllRight lessons
 lessons-right = (

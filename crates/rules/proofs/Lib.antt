@@ -1,5 +1,6 @@
 pub mod Tests
 pub mod TableLaws
 pub mod Sums
+pub mod Counting
 pub mod Checks
 pub mod LessonLaws

@@ -2,13 +2,15 @@
 --
 --   total-same     equal terms give equal sums
 --   total-none     terms that are all 0 add up to 0
+--   total-most     terms that are each below 2 add up to no more than their number
+--   total-part     no term is above the sum
 --   total-add      the sum of two sums, term by term
 --   total-mod      a sum mod 2 needs its terms mod 2 only
 --   total-one      where one term alone is not 0, the sum is that term
 --   total-blocks   a sum of z * m terms is a sum of m sums of z terms
---   total-more     one term more, mod 2
+--   total-more     one term more
 use mathlib.Core.Path.{_≡_, refl, ap, ap₂, _∙_}
-use Prim.Native.Nat.{ℕ, zero, suc, _+_, _*_, _%_, _<_}
+use Prim.Native.Nat.{ℕ, zero, suc, _+_, _*_, _%_, _≤_, _<_, zero-le}
 use native.Mathlib.Nat.{not-suc-le-zero, add-suc, add-zero, mul-suc, mul-zero}
 use native.Mathlib.Numerals.{add-one}
 use native.Mathlib.Decide.{ℕ-discrete}
@@ -24,6 +26,19 @@ pub total-none : (n : ℕ) (f : ℕ → ℕ) → ((p : ℕ) → p < n → f p �
 unfolding total
 total-none zero f h = refl
 total-none (suc n) f h = omega (arith, total-none n f (λ p l. h p (omega arith)), h n (omega arith))
+
+pub total-most : (n : ℕ) (f : ℕ → ℕ) → ((p : ℕ) → f p < 2) → total n f ≤ n
+unfolding total
+total-most zero f h = zero-le
+total-most (suc n) f h = omega (arith, total-most n f h, h n)
+
+pub total-part : (n : ℕ) (f : ℕ → ℕ) (k : ℕ) → k < n → f k ≤ total n f
+unfolding total
+total-part zero f k l = absurd (not-suc-le-zero l)
+total-part (suc n) f k l = elim (ℕ-discrete n k) [
+  | yes e ↦ omega (arith, ap f e)
+  | no d ↦ omega (arith, total-part n f k (omega arith))
+]
 
 pub total-add : (n : ℕ) (f g : ℕ → ℕ) → total n (λ p. f p + g p) ≡ total n f + total n g
 unfolding total
@@ -53,6 +68,6 @@ unfolding total
 total-blocks z zero f = rw (mul-zero z)
 total-blocks z (suc m) f = rw (mul-suc z m) (total-from (z * m) z f ∙ ap (λ (n : ℕ). n + total z (λ t. f (z * m + t))) (total-blocks z m f))
 
-pub total-more : (f : ℕ → ℕ) (n s : ℕ) → s ≡ total n f % 2 → (s + f n) % 2 ≡ total (n + 1) f % 2
+pub total-more : (f : ℕ → ℕ) (n s : ℕ) → s ≡ total n f → s + f n ≡ total (n + 1) f
 unfolding total
-total-more f n s e = rw (add-one n) (omega arith)
+total-more f n s e = rw (add-one n) (ap (λ (t : ℕ). t + f n) e)

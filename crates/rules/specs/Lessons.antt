@@ -1,4 +1,4 @@
--- Paper 01, 'Lesson sheet', with the counts of W4 of paper 02.
+-- Paper 01, 'Lesson sheet', with the payload counts of W4 and the failing rows of W3 of paper 02.
 -- The ten lessons marked P, in one table, and what it is for a lesson to be right.
 --
 --   only p        the word that has a 1 at place p alone
@@ -45,8 +45,8 @@ lessons =
     place 14391 (311 ∷ 1214 ∷ 2677 ∷ []) ∷
     place 14592 (551 ∷ 1024 ∷ 1633 ∷ []) ∷
     word zeros 257 Accepted ∷
-    word (only 0) 257 (Rejected (Check 176)) ∷
+    word (only 0) 257 (Rejected (Check 176 6)) ∷
     word (only 257) 257 (Rejected (Shortened 257)) ∷
     word (only 14392) 14392 (Rejected (Shortened 14392)) ∷
-    word (only 14592) 257 (Rejected (Check 551)) ∷
+    word (only 14592) 257 (Rejected (Check 551 3)) ∷
     []

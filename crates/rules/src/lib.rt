@@ -6,11 +6,11 @@ ghost use Rattle.rules.specs.Matrix.{entry};
 ghost use Rattle.rules.specs.Table.{fibre};
 ghost use Rattle.rules.specs.Terms.{turn};
 
-// Why a word is not accepted: the lowest shortened place that is 1, the lowest failing row, the lowest sent parity
-// place that differs, or the lowest delimiter bit that differs.
+// Why a word is not accepted: the lowest shortened place that is 1, the lowest failing row and how many rows fail, the
+// lowest sent parity place that differs, or the lowest delimiter bit that differs.
 pub enum Cause {
     Shortened(usize),
-    Check(usize),
+    Check { row: usize, count: usize },
     Parity(usize),
     Delimiter(usize),
 }

@@ -97,7 +97,7 @@ tail-verdict K l d p q e v h = over v h
     over (Rejected (cause.Parity n)) h = (there n (h .0), λ m k x. h .1 m k (back m x))
     over (Rejected (cause.Delimiter n)) h = (λ m x. h .0 m (back m x), h .1)
     over (Rejected (cause.Shortened n)) h = h
-    over (Rejected (cause.Check n)) h = h
+    over (Rejected (cause.Check n m)) h = h
 
 line-same : (K : ℕ) (l : List ℕ) (d : ℕ) (v v′ : Verdict) → LineVerdict K l d v → LineVerdict K l d v′ → v ≡ v′
 line-same K l d v v′ x y =

@@ -17,9 +17,9 @@ module _ {w : List ℕ} {K p : ℕ} (f : FirstSet w K 14592 p) where
   pub shortened-nowhere : 14592 ≤ p → Nowhere (ShortenedSet K (bit w))
   shortened-nowhere h n s = omega (arith, f .clear n (s .0) (omega arith), s .2)
 
-module _ {w : ℕ → ℕ} {r : ℕ} (s : Scanned w r) where
+module _ {w : ℕ → ℕ} {r m : ℕ} (s : Scanned w 3072 r m) where
   pub fails-lowest : r < 3072 → Lowest (Fails w) r
-  fails-lowest h = ((h, s .fails h), λ m l f. omega (arith, s .hold m l, f .1))
+  fails-lowest h = ((h, s .fails h .1), λ n l f. omega (arith, s .hold n (omega arith) l, f .1))
 
   pub fails-nowhere : 3072 ≤ r → Nowhere (Fails w)
-  fails-nowhere h n f = omega (arith, s .hold n (omega arith), f .1)
+  fails-nowhere h n f = omega (arith, s .hold n (f .0) (omega arith), f .1)

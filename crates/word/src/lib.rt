@@ -26,24 +26,45 @@ fn term_of(word: &[u8], row: usize, j: usize, a: i16) -> u8
     bits::bit_at(word, 256 * j + (row % 256 + turn) % 256)
 }
 
-// The lowest failing row, or 3,072 where every check holds. The scan stops at the first failed check.
-fn first_failing(word: &[u8]) -> usize
+// What the scan finds: the lowest failing row, or 3,072 where every check holds, and how many rows fail.
+struct Failing {
+    lowest: usize,
+    count: usize,
+}
+
+// Scans every row: once one fails, the scan goes on.
+fn scan(word: &[u8]) -> Failing
     requires { ⌜ length (now word) ≡ 2208 ⌝ }
-    ensures { λ r. ⌜ Scanned (bit (now (word .entry))) r ⌝ }
+    ensures { λ r. ⌜ Scanned (bit (now (word .entry))) 3072 (r .lowest) (r .count) ⌝ }
 {
     let table = rules::TABLE;
     let mut row: usize = 0;
+    let mut found = Failing {
+        lowest: 3072,
+        count: 0,
+    };
     'rows: loop {
         if row == 3072 {
-            break 'rows row;
+            break 'rows found;
         }
         let i = row / 256;
-        let mut sum: u8 = 0;
+        let mut ones: usize = 0;
         for j in 0..69 {
-            sum = (sum + term_of(word, row, j, table[j][i])) % 2;
+            ones += term_of(word, row, j, table[j][i]) as usize;
         }
-        if sum == 1 {
-            break 'rows row;
+        if ones % 2 == 1 {
+            found = if found.lowest < 3072 {
+                let more = found.count + 1;
+                Failing {
+                    lowest: found.lowest,
+                    count: more,
+                }
+            } else {
+                Failing {
+                    lowest: row,
+                    count: 1,
+                }
+            };
         }
         row += 1;
     }
@@ -58,9 +79,12 @@ fn judge(count: usize, word: &[u8]) -> Verdict
     if place < 14592 {
         return Verdict::Rejected(Cause::Shortened(place));
     }
-    let row = first_failing(word);
-    if row < 3072 {
-        return Verdict::Rejected(Cause::Check(row));
+    let failing = scan(word);
+    if failing.lowest < 3072 {
+        return Verdict::Rejected(Cause::Check {
+            row: failing.lowest,
+            count: failing.count,
+        });
     }
     Verdict::Accepted
 }

@@ -15,20 +15,26 @@ add-result c = omega (arith, subst CauseFits (c .before .cause .given .1) (c .be
 enum-known-cause-2 : tie.Need-enum-known-cause-2
 enum-known-cause-2 c = search needs
 
+mul-result : tie.Need-mul-result
+mul-result c = omega (arith, subst CauseFits (c .before .cause2 .given .1) (c .before .before .before .pre))
+
 add-result-2 : tie.Need-add-result-2
 add-result-2 c = omega (arith, subst CauseFits (c .before .cause2 .given .1) (c .before .before .before .pre))
+
+add-result-3 : tie.Need-add-result-3
+add-result-3 c = omega (arith, subst CauseFits (c .before .cause2 .given .1) (c .before .before .before .pre))
 
 enum-known-cause-3 : tie.Need-enum-known-cause-3
 enum-known-cause-3 c = search needs
 
-add-result-3 : tie.Need-add-result-3
-add-result-3 c = omega (arith, subst CauseFits (c .before .cause3 .given .1) (c .before .before .before .pre))
+add-result-4 : tie.Need-add-result-4
+add-result-4 c = omega (arith, subst CauseFits (c .before .cause3 .given .1) (c .before .before .before .pre))
 
 enum-known-cause-4 : tie.Need-enum-known-cause-4
 enum-known-cause-4 c = search needs
 
-add-result-4 : tie.Need-add-result-4
-add-result-4 c = omega (arith, subst CauseFits (c .before .cause4 .given .1) (c .before .before .before .pre))
+add-result-5 : tie.Need-add-result-5
+add-result-5 c = omega (arith, subst CauseFits (c .before .cause4 .given .1) (c .before .before .before .pre))
 
 returns : tie.Need-returns
 returns c = sym (ap causeNumber (c .before .cause .given .1))
@@ -49,11 +55,13 @@ cause-number-spec =
     enum-known-cause
     add-result
     enum-known-cause-2
+    mul-result
     add-result-2
-    enum-known-cause-3
     add-result-3
-    enum-known-cause-4
+    enum-known-cause-3
     add-result-4
+    enum-known-cause-4
+    add-result-5
     returns
     returns-2
     returns-3

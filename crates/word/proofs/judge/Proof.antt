@@ -10,21 +10,22 @@ first-set-requires c κs = search needs
 returns : tie.Need-returns
 returns c = shortened-lowest (c .before .first-set .ensures) (c .if1 .taken)
 
-first-failing-requires : tie.Need-first-failing-requires
-first-failing-requires c κs = search needs
+scan-requires : tie.Need-scan-requires
+scan-requires c κs = search needs
 
 returns-2 : tie.Need-returns-2
 returns-2 c = (
-  shortened-nowhere (c .before .before .before .first-set .ensures) (c .before .before .if1 .left),
-  fails-lowest (c .before .first-failing .ensures) (c .if2 .taken),
+  shortened-nowhere (c .before .before .before .before .first-set .ensures) (c .before .before .before .if1 .left),
+  fails-lowest (c .before .before .scan .ensures) (c .if2 .taken),
+  c .before .before .scan .ensures .counted,
 )
 
 returns-3 : tie.Need-returns-3
 returns-3 c = (
-  shortened-nowhere (c .before .before .before .first-set .ensures) (c .before .before .if1 .left),
-  fails-nowhere (c .before .first-failing .ensures) (c .if2 .left),
+  shortened-nowhere (c .before .before .before .before .first-set .ensures) (c .before .before .before .if1 .left),
+  fails-nowhere (c .before .before .scan .ensures) (c .if2 .left),
 )
 
 pub judge-spec : {M : Type 1} → statement M
 judge-spec =
-    tie.close (tie.spec first-set-requires returns first-failing-requires returns-2 returns-3)
+    tie.close (tie.spec first-set-requires returns scan-requires returns-2 returns-3)
