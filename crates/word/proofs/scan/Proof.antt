@@ -11,7 +11,7 @@ use Rattle.rules.specs.Matrix.{total, check}
 use Rattle.rules.specs.Table.{lines, fibre}
 use Rattle.rules.specs.Terms.{term}
 use Rattle.rules.proofs.TableLaws.{entry-read}
-use Rattle.rules.proofs.Sums.{total-most, total-more}
+use Rattle.rules.proofs.Sums.{total-more}
 use Rattle.rules.proofs.Counting.{howMany-most}
 use Rattle.rules.proofs.Checks.{check-columns}
 use Rattle.laws.proofs.Bits.{bit<}
@@ -23,7 +23,7 @@ use Rattle.word.proofs.scan.Statement.{statement}
 use Rattle.word.proofs.scan.Tie as tie
 
 abbrev Inv-loop : tie.InvT-loop
-Inv-loop word table row found i ones₀ j₀ ones j = (j ≤ 69) × (ones ≡ total j (term fibre row (bit word)))
+Inv-loop word table row found i ones₀ j₀ ones j = (j ≤ 69) × (ones ≤ j) × (ones ≡ total j (term fibre row (bit word)))
 
 abbrev μ-loop : tie.MeasureT-loop
 μ-loop word table row found i ones₀ j₀ ones j = 69 - j
@@ -34,9 +34,9 @@ Inv-rows word table row₀ found₀ row found = (row ≤ 3072) × Scanned (bit w
 abbrev μ-rows : tie.MeasureT-rows
 μ-rows word table row₀ found₀ row found = 3072 - row
 
--- the first j terms of a row add up to no more than j
-few : (w : List ℕ) (row j : ℕ) → total j (term fibre row (bit w)) ≤ j
-few w row j = total-most j _ (λ j. term-below fibre (lit< tt) row (bit w) j (bit< w))
+-- a term is 0 or 1
+low : (w : List ℕ) (row j : ℕ) → term fibre row (bit w) j < 2
+low w row j = term-below fibre (lit< tt) row (bit w) j (bit< w)
 
 -- all 69 terms are summed
 summed : (w : List ℕ) (row ones j : ℕ) → ones ≡ total j (term fibre row (bit w)) → j ≡ 69 → ones % 2 ≡ check fibre row (bit w)
@@ -48,7 +48,7 @@ rows-holds c = (search needs, scan-none _)
 
 loop-holds : tie.Need-loop-holds Inv-loop μ-loop Inv-rows μ-rows
 unfolding total
-loop-holds c = (search needs, refl)
+loop-holds c = (search needs, search needs, refl)
 
 mul-term-of : tie.Need-mul-term-of Inv-loop μ-loop Inv-rows μ-rows
 mul-term-of c = search needs
@@ -76,8 +76,7 @@ add-ones : tie.Need-add-ones Inv-loop μ-loop Inv-rows μ-rows
 add-ones c =
     let w = c .before .before .before .before .before .before .before .args .word .now in
     let row = c .before .before .before .before .before .rows .row in
-    let l = c .before .before .before .loop in
-    omega (arith, c .term-of .ensures, term-below fibre (lit< tt) row (bit w) (l .j) (bit< w), few w row (l .j), l .inv .1)
+    omega (arith, c .term-of .ensures, low w row (c .before .before .before .loop .j))
 
 add-j : tie.Need-add-j Inv-loop μ-loop Inv-rows μ-rows
 add-j c = search needs
@@ -89,8 +88,11 @@ loop-again : tie.Need-loop-again Inv-loop μ-loop Inv-rows μ-rows
 loop-again c =
     let w = c .before .before .before .before .before .before .before .args .word .now in
     let row = c .before .before .before .before .before .rows .row in
-    let l = c .before .before .before .loop in
-    (search needs, rw (c .term-of .ensures) (total-more (term fibre row (bit w)) (l .j) (l .ones) (l .inv .1)))
+    let l = c .before .before .before .loop in (
+      search needs,
+      omega (arith, c .term-of .ensures, low w row (l .j)),
+      rw (c .term-of .ensures) (total-more (term fibre row (bit w)) (l .j) (l .ones) (l .inv .2)),
+    )
 
 add-more : tie.Need-add-more Inv-loop μ-loop Inv-rows μ-rows
 add-more c =
@@ -110,7 +112,7 @@ rows-again c =
     let w = c .before .before .before .before .before .before .args .word .now in
     let l = c .before .before .loop in
     let r = c .before .before .before .before .rows in
-    let e : check fibre (r .row) (bit w) ≡ l .ones % 2 = sym (summed w (r .row) (l .ones) (l .j) (l .inv .1) (omega arith)) in
+    let e : check fibre (r .row) (bit w) ≡ l .ones % 2 = sym (summed w (r .row) (l .ones) (l .j) (l .inv .2) (omega arith)) in
     let Now : Failing → Type 0 = λ f. Scanned (bit w) (r .row + 1) (f .lowest) (f .count) in (
       search needs,
       elim (c .if2 .came) [
