@@ -21,7 +21,7 @@ use Rattle.rules.specs.declared.Verdict.{Verdict}
 use Rattle.rules.specs.declared.Verdict.the-variants.{Accepted, Rejected}
 use Rattle.rules.specs.declared.Judgement.{Judgement}
 use Rattle.rules.specs.declared.Judgement.the-variants.{Judged, Refused}
-use Rattle.rules.proofs.Counting.{howMany-some, howMany-most}
+use Rattle.rules.proofs.Counting.{howMany-some, howMany-below}
 
 pub lowest-same : (P : ℕ → Type 0) (a b : ℕ) → Lowest P a → Lowest P b → a ≡ b
 lowest-same P a b p q = elim (decLt a b) [
@@ -95,7 +95,7 @@ word-same K w v v′ a b = stands-same (wordVerdict w) (ShortenedSet K w) (Fails
 pub count-range : (K : ℕ) (w : ℕ → ℕ) (n m : ℕ) → WordVerdict K w (Rejected (Check n m)) → (0 < m) × (m ≤ 3072)
 count-range K w n m p = (
   rw (p .2) (howMany-some 3072 (λ r. eqb (check fibre r w) 1) n (p .1 .0 .0) (ap (λ (x : ℕ). eqb x 1) (p .1 .0 .1))),
-  rw (p .2) (howMany-most 3072 (λ r. eqb (check fibre r w) 1)),
+  rw (p .2) (howMany-below 3072 (λ r. eqb (check fibre r w) 1)),
 )
 
 pub tail-same : (K : ℕ) (l : List ℕ) (d : ℕ) (p : List ℕ) (v v′ : Verdict) → TailVerdict K l d p v → TailVerdict K l d p v′ → v ≡ v′

@@ -46,21 +46,17 @@ fn is_shortened(judgement: Judgement, place: usize) -> bool {
     told == place
 }
 
-fn is_check(judgement: Judgement, row: usize, count: usize) -> bool {
+fn is_check(judgement: Judgement, lowest: usize, rows: usize) -> bool {
     let Judgement::Judged(verdict) = judgement else {
         return false;
     };
     let Verdict::Rejected(cause) = verdict else {
         return false;
     };
-    let Cause::Check {
-        row: told,
-        count: fail,
-    } = cause
-    else {
+    let Cause::Check { row, count } = cause else {
         return false;
     };
-    told == row && fail == count
+    row == lowest && count == rows
 }
 
 fn is_judged_refused(judgement: Judgement, number: usize) -> bool {

@@ -1,16 +1,16 @@
 -- Laws of `howMany b f`, how many numbers below b pass the test f.
 --
---   howMany-same    equal tests count alike
---   howMany-none    where none passes, the count is 0
---   howMany-some    where one passes, the count is above 0
---   howMany-most    the count is no more than b
---   howMany-more    one number more
+--   howMany-same     equal tests count alike
+--   howMany-none     where none passes, the count is 0
+--   howMany-some     where one passes, the count is above 0
+--   howMany-below    the count is no more than b
+--   howMany-more     one number more
 use mathlib.Core.Path.{_≡_, sym, ap, _∙_}
 use mathlib.Core.Bool.{Bool, true, false, cond}
 use Prim.Native.Nat.{ℕ, _+_, _≤_, _<_}
 use native.Mathlib.Omega.{arith}
 use Rattle.rules.specs.Verdicts.{howMany}
-use Rattle.rules.proofs.Sums.{total-same, total-none, total-most, total-part, total-more}
+use Rattle.rules.proofs.Sums.{total-same, total-none, total-below, total-part, total-more}
 
 -- what a number adds to the count, by its test
 abbrev mark : Bool → ℕ
@@ -29,8 +29,8 @@ howMany-none b f h = total-none b _ (λ n l. ap mark (h n l))
 pub howMany-some : (b : ℕ) (f : ℕ → Bool) (n : ℕ) → n < b → f n ≡ true → 0 < howMany b f
 howMany-some b f n l e = omega (arith, total-part b (λ n. mark (f n)) n l, ap mark e)
 
-pub howMany-most : (b : ℕ) (f : ℕ → Bool) → howMany b f ≤ b
-howMany-most b f = total-most b _ (λ n. mark-below (f n))
+pub howMany-below : (b : ℕ) (f : ℕ → Bool) → howMany b f ≤ b
+howMany-below b f = total-below b _ (λ n. mark-below (f n))
 
 pub howMany-more : (b m : ℕ) (f : ℕ → Bool) (v : Bool) → m ≡ howMany b f → f b ≡ v → m + mark v ≡ howMany (b + 1) f
 howMany-more b m f v e h = ap (λ (v : Bool). m + mark v) (sym h) ∙ total-more (λ n. mark (f n)) b m e

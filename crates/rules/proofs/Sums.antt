@@ -2,7 +2,7 @@
 --
 --   total-same     equal terms give equal sums
 --   total-none     terms that are all 0 add up to 0
---   total-most     terms that are each below 2 add up to no more than their number
+--   total-below    terms that are each below 2 add up to no more than their number
 --   total-part     no term is above the sum
 --   total-add      the sum of two sums, term by term
 --   total-mod      a sum mod 2 needs its terms mod 2 only
@@ -27,10 +27,10 @@ unfolding total
 total-none zero f h = refl
 total-none (suc n) f h = omega (arith, total-none n f (λ p l. h p (omega arith)), h n (omega arith))
 
-pub total-most : (n : ℕ) (f : ℕ → ℕ) → ((p : ℕ) → f p < 2) → total n f ≤ n
+pub total-below : (n : ℕ) (f : ℕ → ℕ) → ((p : ℕ) → f p < 2) → total n f ≤ n
 unfolding total
-total-most zero f h = zero-le
-total-most (suc n) f h = omega (arith, total-most n f h, h n)
+total-below zero f h = zero-le
+total-below (suc n) f h = omega (arith, total-below n f h, h n)
 
 pub total-part : (n : ℕ) (f : ℕ → ℕ) (k : ℕ) → k < n → f k ≤ total n f
 unfolding total

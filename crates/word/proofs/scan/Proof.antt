@@ -12,7 +12,7 @@ use Rattle.rules.specs.Table.{lines, fibre}
 use Rattle.rules.specs.Terms.{term}
 use Rattle.rules.proofs.TableLaws.{entry-read}
 use Rattle.rules.proofs.Sums.{total-more}
-use Rattle.rules.proofs.Counting.{howMany-most}
+use Rattle.rules.proofs.Counting.{howMany-below}
 use Rattle.rules.proofs.Checks.{check-columns}
 use Rattle.laws.proofs.Bits.{bit<}
 use Rattle.laws.proofs.Columns.{term-below}
@@ -99,7 +99,7 @@ add-more c =
     let after = c .before .before .before .before in
     let w = after .before .before .before .before .before .args .word .now in
     let r = after .before .before .before .rows in
-    omega (arith, r .inv .1 .counted, howMany-most (r .row) (λ n. eqb (check fibre n (bit w)) 1))
+    omega (arith, r .inv .1 .counted, howMany-below (r .row) (λ n. eqb (check fibre n (bit w)) 1))
 
 add-row : tie.Need-add-row Inv-loop μ-loop Inv-rows μ-rows
 add-row c = search needs
