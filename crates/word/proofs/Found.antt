@@ -8,7 +8,7 @@ use native.Mathlib.Omega.{arith}
 use Rattle.rules.specs.Bits.{bit}
 use Rattle.rules.specs.Verdicts.{Lowest, Nowhere, ShortenedSet, Fails}
 use Rattle.bits.specs.Adds.{FirstSet}
-use Rattle.word.specs.Scan.{Scanned}
+use Rattle.rows.specs.Scan.{Scanned}
 
 module _ {w : List ℕ} {K p : ℕ} (f : FirstSet w K 14592 p) where
   pub shortened-lowest : p < 14592 → Lowest (ShortenedSet K (bit w)) p

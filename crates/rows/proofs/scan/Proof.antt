@@ -1,4 +1,4 @@
--- `word::scan` meets its contract.
+-- `rows::scan` meets its contract.
 use borrow.Author.Needs.{needs}
 use mathlib.Core.Path.{_≡_, refl, sym, ap, subst, _∙_}
 use mathlib.Core.Logic.{inl, inr}
@@ -16,11 +16,11 @@ use Rattle.rules.proofs.Counting.{howMany-below}
 use Rattle.rules.proofs.Checks.{check-columns}
 use Rattle.laws.proofs.Bits.{bit<}
 use Rattle.laws.proofs.Columns.{term-below}
-use Rattle.word.specs.Scan.{Scanned}
-use Rattle.word.specs.declared.Failing.{Failing}
-use Rattle.word.proofs.Rows.{scan-none, scan-held, scan-first, scan-more}
-use Rattle.word.proofs.scan.Statement.{statement}
-use Rattle.word.proofs.scan.Tie as tie
+use Rattle.rows.specs.Scan.{Scanned}
+use Rattle.rows.specs.declared.Failing.{Failing}
+use Rattle.rows.proofs.Steps.{scan-none, scan-held, scan-first, scan-more}
+use Rattle.rows.proofs.scan.Statement.{statement}
+use Rattle.rows.proofs.scan.Tie as tie
 
 abbrev Inv-loop : tie.InvT-loop
 Inv-loop word table row found i ones₀ j₀ ones j = (j ≤ 69) × (ones ≤ j) × (ones ≡ total j (term fibre row (bit word)))

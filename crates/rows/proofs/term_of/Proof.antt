@@ -1,4 +1,4 @@
--- `word::term_of` meets its contract.
+-- `rows::term_of` meets its contract.
 use borrow.Author.Needs.{needs}
 use mathlib.Core.Path.{sym, _∙_}
 use Prim.Native.Nat.{_+_, _*_, _/_, _%_}
@@ -9,8 +9,8 @@ use Rattle.rules.specs.Table.{fibre}
 use Rattle.rules.specs.Terms.{term}
 use Rattle.rules.proofs.TableLaws.{entry-range}
 use Rattle.laws.proofs.Columns.{turn-none, turn-some, turn-told}
-use Rattle.word.proofs.term_of.Statement.{statement}
-use Rattle.word.proofs.term_of.Tie as tie
+use Rattle.rows.proofs.term_of.Statement.{statement}
+use Rattle.rows.proofs.term_of.Tie as tie
 
 turn-of-requires : tie.Need-turn-of-requires
 turn-of-requires c κs = search needs

@@ -14,7 +14,7 @@ use Rattle.rules.specs.Matrix.{total, check}
 use Rattle.rules.specs.Table.{fibre}
 use Rattle.rules.specs.Verdicts.{howMany}
 use Rattle.rules.proofs.Counting.{howMany-none, howMany-more}
-use Rattle.word.specs.Scan.{Scanned}
+use Rattle.rows.specs.Scan.{Scanned}
 
 pub scan-none : (w : ℕ → ℕ) → Scanned w 0 3072 0
 unfolding total
