@@ -55,7 +55,7 @@
  *      the lowest such place, 0 to 2,559
  *   4  delimiter: it isn't the one given;
  *      its lowest differing bit, 0 to 9
- *   Where the cause is no check, count is 0.
+ *   For the other causes count is 0.
  *
  * A refused call leaves every byte as it was. Where
  * several numbers fit, the first in the call's order is

@@ -1,7 +1,7 @@
 -- The numbers that the C host is answered.
 --
 --   causeNumber c       cause x 2^32 + count x 2^16 + place, with cause 1 shortened, 2 check, 3 parity, 4 delimiter; the count is that
---                       of failing rows, and 0 where the cause is no check
+--                       of failing rows, and 0 for the other causes
 --   verdictNumber v     0 for accepted
 --   judgementNumber j   the refusal's number, or the verdict's
 --   JudgementFits j     its place and its count are below 2^16, as those of every word are
@@ -36,7 +36,7 @@ abbrev pub judgementNumber : Judgement → ℕ
 judgementNumber (Judged v) = verdictNumber v
 judgementNumber (Refused n) = n
 
--- each below 2^16, so that no two causes share a number
+-- place and count are each below 2^16, as wide as their parts of the number
 abbrev pub CauseFits : Cause → Type 0
 CauseFits (Shortened n) = n < 2 ^ 16
 CauseFits (Check n m) = (n < 2 ^ 16) × (m < 2 ^ 16)
