@@ -1,4 +1,4 @@
--- Laws of verdicts: any two that fit are equal.
+-- Laws of verdicts: any two that fit are equal, and how many rows may fail.
 --
 --   lowest-same     two numbers that are each the lowest are equal
 --   lowest-none     a lowest number is somewhere
