@@ -12,9 +12,7 @@ use Prim.Native.Nat.{ℕ, _≤_, _<_}
 use native.Mathlib.Decide.{decLt}
 use native.Mathlib.Omega.{arith}
 use lib.Dec.{eqb}
-use Rattle.rules.specs.Matrix.{check}
-use Rattle.rules.specs.Table.{fibre}
-use Rattle.rules.specs.Verdicts.{Lowest, Nowhere, ShortenedSet, Fails, failing, WordVerdict, ParityDiffers, DelimiterDiffers, TailVerdict}
+use Rattle.rules.specs.Verdicts.{Lowest, Nowhere, ShortenedSet, Fails, rowFails, howMany, WordVerdict, ParityDiffers, DelimiterDiffers, TailVerdict}
 use Rattle.rules.specs.Promises.{refusal, judged}
 use Rattle.rules.specs.declared.Cause.the-variants.{Shortened, Check, Parity, Delimiter}
 use Rattle.rules.specs.declared.Verdict.{Verdict}
@@ -59,7 +57,7 @@ found-same P Q neither neither p q = refl
 
 abbrev wordVerdict : (ℕ → ℕ) → Found → Verdict
 wordVerdict w (first n) = Rejected (Shortened n)
-wordVerdict w (second n) = Rejected (Check n (failing w))
+wordVerdict w (second n) = Rejected (Check n (howMany 3072 (rowFails w)))
 wordVerdict w neither = Accepted
 
 abbrev tailVerdict : Found → Verdict
@@ -94,8 +92,8 @@ word-same K w v v′ a b = stands-same (wordVerdict w) (ShortenedSet K w) (Fails
 
 pub count-range : (K : ℕ) (w : ℕ → ℕ) (n m : ℕ) → WordVerdict K w (Rejected (Check n m)) → (0 < m) × (m ≤ 3072)
 count-range K w n m p = (
-  rw (p .2) (howMany-some 3072 (λ r. eqb (check fibre r w) 1) n (p .1 .0 .0) (ap (λ (x : ℕ). eqb x 1) (p .1 .0 .1))),
-  rw (p .2) (howMany-below 3072 (λ r. eqb (check fibre r w) 1)),
+  rw (p .2) (howMany-some 3072 (rowFails w) n (p .1 .0 .0) (ap (λ (x : ℕ). eqb x 1) (p .1 .0 .1))),
+  rw (p .2) (howMany-below 3072 (rowFails w)),
 )
 
 pub tail-same : (K : ℕ) (l : List ℕ) (d : ℕ) (p : List ℕ) (v v′ : Verdict) → TailVerdict K l d p v → TailVerdict K l d p v′ → v ≡ v′

@@ -5,13 +5,12 @@
 -- Nothing here is proved.
 use mathlib.Core.Path.{_≡_}
 use Prim.Native.Nat.{ℕ, _<_}
-use lib.Dec.{eqb}
 use Rattle.rules.specs.Numbers.{parityPlaces}
 use Rattle.rules.specs.Matrix.{check}
 use Rattle.rules.specs.Table.{fibre}
-use Rattle.rules.specs.Verdicts.{howMany}
+use Rattle.rules.specs.Verdicts.{rowFails, howMany}
 
 pub record Scanned (w : ℕ → ℕ) (b l m : ℕ) : Type 0 where
   pub hold : (n : ℕ) → n < b → n < l → check fibre n w ≡ 0
   pub fails : l < parityPlaces → (l < b) × (check fibre l w ≡ 1)
-  pub counted : m ≡ howMany b (λ n. eqb (check fibre n w) 1)
+  pub counted : m ≡ howMany b (rowFails w)

@@ -12,7 +12,7 @@ use borrow.Author.Tests.{eq-eqb, ne-eqb}
 use Rattle.rules.specs.Bits.{zeros}
 use Rattle.rules.specs.Matrix.{entry, one, total, check, checksOf}
 use Rattle.rules.specs.Table.{lines, fibre}
-use Rattle.rules.specs.Verdicts.{howMany, failing, WordVerdict}
+use Rattle.rules.specs.Verdicts.{rowFails, howMany, WordVerdict}
 use Rattle.rules.specs.Lessons.{only, AllRight, lessons}
 use Rattle.rules.specs.declared.Cause.the-variants.{Shortened, Check}
 use Rattle.rules.specs.declared.Verdict.the-variants.{Accepted, Rejected}
@@ -35,8 +35,8 @@ check-only : (n p : ℕ) → p < 17664 → check fibre n (only p) ≡ one fibre 
 check-only n p h = check-single fibre n p (only p) h (only-at p) (λ q l d. only-elsewhere p q d)
 
 -- the rows that fail where place p alone is 1 are those that p is in
-failing-only : (p : ℕ) → p < 17664 → failing (only p) ≡ howMany 3072 (λ m. eqb (one fibre m p) 1)
-failing-only p h = howMany-same 3072 _ _ (λ m l. ap (λ (x : ℕ). eqb x 1) (check-only m p h))
+count-only : (p : ℕ) → p < 17664 → howMany 3072 (rowFails (only p)) ≡ howMany 3072 (λ m. eqb (one fibre m p) 1)
+count-only p h = howMany-same 3072 (rowFails (only p)) _ (λ m l. ap (λ (x : ℕ). eqb x 1) (check-only m p h))
 
 -- a 1 at place p, which is not shortened, fails the checks of p: first n, where p is in none below n
 first-check : (K p n k : ℕ) → p < 17664 → ((m : ℕ) → K ≤ m → m < 14592 → m ≡ p → ⊥) → n < 3072 → one fibre n p ≡ 1
@@ -48,7 +48,7 @@ first-check K p n k h s l e t c = (
     (l, check-only n p h ∙ e),
     λ m j a. omega (arith, sym (check-only m p h) ∙ a .1, eqb→eq (one fibre m p) 0 (every-at n (λ m. eqb (one fibre m p) 0) t m j)),
   ),
-  c ∙ sym (failing-only p h),
+  c ∙ sym (count-only p h),
 )
 
 -- a 1 at place K, the first shortened one

@@ -4,8 +4,8 @@
 --   Nowhere P              P holds of no number
 --   ShortenedSet K w n     n is a shortened place, K to 14,591, and it is 1
 --   Fails w n              check n of w, one of 0 to 3,071, fails
+--   rowFails w n           the test of row n of w: passed where its check is 1
 --   howMany b f            how many numbers below b pass the test f
---   failing w              how many rows of w fail: their check is 1
 --   WordVerdict K w v      v is the verdict on the full word w
 --   Differs x y b n        n is below b, and x and y differ there
 --   LineVerdict K l d v    v is the verdict on the line word l: its tail beside the encoder's
@@ -37,16 +37,16 @@ ShortenedSet K w n = (K ≤ n) × (n < payloadPlaces) × (w n ≡ 1)
 abbrev pub Fails : (ℕ → ℕ) → ℕ → Type 0
 Fails w n = (n < parityPlaces) × (check fibre n w ≡ 1)
 
+abbrev pub rowFails : (ℕ → ℕ) → ℕ → Bool
+rowFails w n = eqb (check fibre n w) 1
+
 abbrev pub howMany : ℕ → (ℕ → Bool) → ℕ
 howMany b f = total b (λ n. cond (f n) 1 0)
-
-abbrev pub failing : (ℕ → ℕ) → ℕ
-failing w = howMany parityPlaces (λ n. eqb (check fibre n w) 1)
 
 abbrev pub WordVerdict : ℕ → (ℕ → ℕ) → Verdict → Type 0
 WordVerdict K w Accepted = Nowhere (ShortenedSet K w) × Nowhere (Fails w)
 WordVerdict K w (Rejected (cause.Shortened n)) = Lowest (ShortenedSet K w) n
-WordVerdict K w (Rejected (cause.Check n m)) = Nowhere (ShortenedSet K w) × Lowest (Fails w) n × (m ≡ failing w)
+WordVerdict K w (Rejected (cause.Check n m)) = Nowhere (ShortenedSet K w) × Lowest (Fails w) n × (m ≡ howMany parityPlaces (rowFails w))
 WordVerdict K w (Rejected (cause.Parity n)) = ⊥
 WordVerdict K w (Rejected (cause.Delimiter n)) = ⊥
 

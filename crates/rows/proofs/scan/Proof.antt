@@ -5,11 +5,12 @@ use mathlib.Core.Logic.{inl, inr}
 use mathlib.Core.List.{List}
 use Prim.Native.Nat.{ℕ, _+_, _-_, _/_, _%_, _≤_, _<_}
 use native.Mathlib.Omega.{arith}
-use lib.Dec.{eqb, lit<}
+use lib.Dec.{lit<}
 use Rattle.rules.specs.Bits.{bit}
 use Rattle.rules.specs.Matrix.{total, check}
 use Rattle.rules.specs.Table.{lines, fibre}
 use Rattle.rules.specs.Terms.{term}
+use Rattle.rules.specs.Verdicts.{rowFails}
 use Rattle.rules.proofs.TableLaws.{entry-read}
 use Rattle.rules.proofs.Sums.{total-more}
 use Rattle.rules.proofs.Counting.{howMany-below}
@@ -99,7 +100,7 @@ add-more c =
     let after = c .before .before .before .before in
     let w = after .before .before .before .before .before .args .word .now in
     let r = after .before .before .before .rows in
-    omega (arith, r .inv .1 .counted, howMany-below (r .row) (λ n. eqb (check fibre n (bit w)) 1))
+    omega (arith, r .inv .1 .counted, howMany-below (r .row) (rowFails (bit w)))
 
 add-row : tie.Need-add-row Inv-loop μ-loop Inv-rows μ-rows
 add-row c = search needs
