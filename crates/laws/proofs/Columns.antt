@@ -8,8 +8,8 @@
 --   turn-told      the turn of an entry that is passed on as 16 bits is its turn
 --   check-column   a check of block j of a word alone is that column's term
 use mathlib.Core.Path.{_≡_, refl, ap, _∙_}
-use Prim.Native.Nat.{ℕ, _+_, _*_, _/_, _%_, _≤_, _<_}
-use native.Mathlib.Nat.{mod-lt, mul-suc, mul-le-mul-left}
+use Prim.Native.Nat.{ℕ, _+_, _-_, _*_, _/_, _%_, _≤_, _<_}
+use native.Mathlib.Nat.{mod-lt}
 use native.Mathlib.Decide.{decLt}
 use native.Mathlib.Omega.{arith}
 use lib.Dec.{T, ltb→lt, lit<}
@@ -22,7 +22,7 @@ use Rattle.rules.specs.Matrix.{Code, entry, check}
 use Rattle.rules.specs.Terms.{spot, term, turn}
 use Rattle.rules.proofs.Sums.{total-one}
 use Rattle.rules.proofs.TableLaws.{inRange}
-use Rattle.rules.proofs.Checks.{check-columns}
+use Rattle.rules.proofs.Checks.{place-below, check-columns}
 use Rattle.laws.proofs.Runs.{placed-below, placed-in, placed-above}
 
 pub spot-same : (z : ℕ) → 0 < z → (a : ℤ) (f g : ℕ → ℕ) (r : ℕ) → ((t : ℕ) → t < z → f t ≡ g t) → spot z a f r ≡ spot z a g r
@@ -63,18 +63,15 @@ module _ (c : Code) (h : 0 < c .size) (n : ℕ) where
   unfolding term
   term-zeros x j none = term-same x zeros j none ∙ spot-zeros (c .size) (entry c (n / c .size) j) (n % c .size)
 
--- block k lies before block j
-before : (z k j : ℕ) → k < j → z * k + z ≤ z * j
-before z k j h = rw (mul-suc z k) at (mul-le-mul-left z h)
-
 module _ (c : Code) (h : 0 < c .size) (w : ℕ → ℕ) (j : ℕ) where
   abbrev pub blockAlone : ℕ → ℕ
   blockAlone = placed (c .size * j) (c .size) (λ t. w (c .size * j + t))
 
   elsewhere : (k t : ℕ) → t < c .size → (k ≡ j → ⊥) → blockAlone (c .size * k + t) ≡ 0
   elsewhere k t l d = elim (decLt k j) [
-    | yes b ↦ placed-below (c .size * j) (c .size) (λ t. w (c .size * j + t)) (c .size * k + t) (omega (arith, before (c .size) k j b))
-    | no b ↦ placed-above (c .size * j) (c .size) (λ t. w (c .size * j + t)) (c .size * k + t) (omega (arith, before (c .size) j k (omega arith)))
+    | yes b ↦ placed-below (c .size * j) (c .size) (λ t. w (c .size * j + t)) (c .size * k + t) (place-below (c .size) k j t b l)
+    | no b ↦ placed-above (c .size * j) (c .size) (λ t. w (c .size * j + t)) (c .size * k + t)
+        (omega (arith, place-below (c .size) j k (c .size - 1) (omega arith) (omega arith)))
   ]
 
   here : (t : ℕ) → t < c .size → blockAlone (c .size * j + t) ≡ w (c .size * j + t)

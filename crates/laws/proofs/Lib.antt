@@ -1,6 +1,7 @@
 pub mod Bits
 pub mod Runs
 pub mod Numbers
+pub mod Around
 pub mod Columns
 pub mod Running
 pub mod Told

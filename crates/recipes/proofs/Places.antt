@@ -7,16 +7,15 @@
 --   number-sum        the sum of two bits mod 2
 --   number-bit        a number that is a bit
 --   number-below      a bit as a number is one
---   place-below       places of the first m blocks
 --   bits-same         runs are the same where their blocks are
 --   bits-number       a run that has the bits of given blocks
 use mathlib.Core.Path.{_≡_, refl, sym, ap, ap₂, _∙_}
 use mathlib.Core.Bool.{Bool, true, false, cond}
 use Prim.Native.Nat.{ℕ, zero, suc, _+_, _*_, _/_, _%_, _<_}
-use native.Mathlib.Nat.{mul-suc, mul-comm, mul-le-mul-left, mod-lt, div-add-mod, div-lt-iff-lt-mul}
+use native.Mathlib.Nat.{mod-lt, div-add-mod}
 use native.Mathlib.Omega.{arith}
 use lib.Dec.{eqb, lit<}
-use Rattle.rules.proofs.Checks.{block-of, local-of}
+use Rattle.rules.proofs.Checks.{block-of, local-of, place-below, block-below}
 use Rattle.recipes.proofs.Sums.{_⊕_}
 use Rattle.recipes.proofs.Recipe.{Blocks, Near}
 
@@ -48,12 +47,6 @@ bit-number : (b : Bool) → eqb (number b) 1 ≡ b
 bit-number true = refl
 bit-number false = refl
 
-pub place-below : (Z k m r : ℕ) → k < m → r < Z → Z * k + r < Z * m
-place-below Z k m r hk hr = omega (arith, mul-le-mul-left Z hk, mul-suc Z k)
-
-block-below : (Z m t : ℕ) → 0 < Z → t < Z * m → t / Z < m
-block-below Z m t some h = div-lt-iff-lt-mul some .1 (rw (mul-comm m Z) h)
-
 bits-at : (Z : ℕ) (p : ℕ → ℕ) (t : ℕ) → bits Z p (t / Z) (t % Z) ≡ eqb (p t) 1
 bits-at Z p t = ap (λ (n : ℕ). eqb (p n) 1) (div-add-mod t Z)
 
@@ -61,7 +54,7 @@ pub bits-same : (Z m : ℕ) → 0 < Z → (p q : ℕ → ℕ) → AreBits (Z * m
     → (t : ℕ) → t < Z * m → p t ≡ q t
 bits-same Z m some p q are-p are-q near t h =
     sym (number-bit (p t) (are-p t h))
-    ∙ ap number (sym (bits-at Z p t) ∙ near (t / Z) (t % Z) (block-below Z m t some h) (mod-lt t some) ∙ bits-at Z q t)
+    ∙ ap number (sym (bits-at Z p t) ∙ near (t / Z) (t % Z) (block-below Z m t h) (mod-lt t some) ∙ bits-at Z q t)
     ∙ number-bit (q t) (are-q t h)
 
 pub bits-number : (Z m : ℕ) (p : ℕ → ℕ) (x : Blocks) → ((t : ℕ) → t < Z * m → p t ≡ number (x (t / Z) (t % Z)))

@@ -1,22 +1,28 @@
 -- Laws of a check, over any block size and table.
 --
 --   block-of, local-of   the block and the local column of place z * j + t
+--   place-below      it is a place of the first m blocks, where j is below m
+--   block-some       where the first m blocks have a place, a block has one
+--   block-below      the block of such a place is below m
 --   check-columns    a check is the sum mod 2 of its terms, one for each block column
 --   check-below      a check is 0 or 1
 --   check-same       equal words have equal checks
 --   check-zeros      every check of the word of zeros is 0
 --   check-sum        the checks of a sum are the sums of the checks
---   check-single     check n of a word with a 1 at place p alone is row n, place p of the matrix
+--   one-below        a number of the matrix is 0 or 1
+--   only-at, only-elsewhere   the word with a 1 at place p alone: 1 there, 0 elsewhere
+--   check-only       its check n is row n, place p of the matrix
 use mathlib.Core.Path.{_≡_, refl, sym, ap, _∙_}
 use mathlib.Core.Bool.{Bool, true, false, cond}
 use Prim.Native.Nat.{ℕ, zero, suc, _+_, _*_, _/_, _%_, _<_}
-use native.Mathlib.Nat.{add-mod, mod-lt, mod-eq-of-lt, mul-one, mul-zero, zero-mul, one-mul, suc-mul, mul-add, mul-comm}
+use native.Mathlib.Nat.{add-mod, mod-lt, mod-eq-of-lt, mul-one, mul-zero, zero-mul, one-mul, suc-mul, mul-suc, mul-add, mul-comm}
+use native.Mathlib.Nat.{mul-le-mul-left, div-lt-iff-lt-mul}
 use native.Mathlib.Omega.{arith}
 use lib.Arith.{digits-div, digits-mod}
 use lib.Dec.{eqb, lit<}
 use lib.IntN.{ℤ, pos, negsuc}
 use borrow.Author.Tests.{eq-eqb, ne-eqb}
-use Rattle.rules.specs.Bits.{zeros, sum}
+use Rattle.rules.specs.Bits.{zeros, only, sum}
 use Rattle.rules.specs.Matrix.{Code, places, entry, block, one, total, check}
 use Rattle.rules.specs.Terms.{spot, term}
 use Rattle.rules.proofs.Sums.{total-same, total-none, total-add, total-mod, total-one, total-blocks}
@@ -26,6 +32,16 @@ block-of z j t h = rw (mul-comm z j) (digits-div j h)
 
 pub local-of : (z j t : ℕ) → t < z → (z * j + t) % z ≡ t
 local-of z j t h = rw (mul-comm z j) (digits-mod j h)
+
+pub place-below : (z j m t : ℕ) → j < m → t < z → z * j + t < z * m
+place-below z j m t hj ht = omega (arith, mul-le-mul-left z hj, mul-suc z j)
+
+pub block-some : (z m p : ℕ) → p < z * m → 0 < z
+block-some zero m p h = absurd (omega (arith, h))
+block-some (suc z) m p h = omega arith
+
+pub block-below : (z m p : ℕ) → p < z * m → p / z < m
+block-below z m p h = div-lt-iff-lt-mul (block-some z m p h) .1 (rw (mul-comm m z) h)
 
 -- a block's row has a single one, so its sum is a single bit
 block-total : (z : ℕ) → 0 < z → (a : ℤ) (r : ℕ) (f : ℕ → ℕ) → total z (λ t. block z a r t * f t) ≡ spot z a f r
@@ -79,7 +95,7 @@ check-sum c n x y =
     ∙ ap (λ (s : ℕ). s % 2) (total-add (places c) (λ p. one c n p * x p) (λ p. one c n p * y p))
     ∙ add-mod (total (places c) (λ p. one c n p * x p)) (total (places c) (λ p. one c n p * y p)) 2
 
-one-below : (c : Code) (n p : ℕ) → one c n p < 2
+pub one-below : (c : Code) (n p : ℕ) → one c n p < 2
 unfolding one
 one-below c n p = of (entry c (n / c .size) (p / c .size))
   where
@@ -91,10 +107,16 @@ one-below c n p = of (entry c (n / c .size) (p / c .size))
         bit false = lit< tt
     of (negsuc k) = lit< tt
 
-pub check-single : (c : Code) (n p : ℕ) (w : ℕ → ℕ) → p < places c → w p ≡ 1 → ((q : ℕ) → q < places c → (q ≡ p → ⊥) → w q ≡ 0)
-    → check c n w ≡ one c n p
+pub only-at : (p : ℕ) → only p p ≡ 1
+only-at p = rw (eq-eqb p p refl)
+
+pub only-elsewhere : (p n : ℕ) → (n ≡ p → ⊥) → only p n ≡ 0
+only-elsewhere p n d = rw (ne-eqb n p d)
+
+pub check-only : (c : Code) (n p : ℕ) → p < places c → check c n (only p) ≡ one c n p
 unfolding check
-check-single c n p w h here other =
+check-only c n p h =
     ap (λ (s : ℕ). s % 2)
-    (total-one (places c) (λ q. one c n q * w q) p h (λ q l d. rw (other q l d) (mul-zero (one c n q))) ∙ rw here (mul-one (one c n p)))
+    (total-one (places c) (λ q. one c n q * only p q) p h (λ q l d. rw (only-elsewhere p q d) (mul-zero (one c n q)))
+    ∙ rw (only-at p) (mul-one (one c n p)))
     ∙ mod-eq-of-lt (one-below c n p)

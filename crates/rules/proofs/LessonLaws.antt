@@ -8,35 +8,25 @@ use Prim.Native.Nat.{ℕ, _<_, _≤_}
 use native.Mathlib.Omega.{arith}
 use lib.ListN.{take}
 use lib.Dec.{T, eqb, eqb→eq, lit<}
-use borrow.Author.Tests.{eq-eqb, ne-eqb}
-use Rattle.rules.specs.Bits.{zeros}
-use Rattle.rules.specs.Matrix.{entry, one, total, check, checksOf}
+use Rattle.rules.specs.Bits.{zeros, only}
+use Rattle.rules.specs.Matrix.{entry, one, total, checksOf}
 use Rattle.rules.specs.Table.{lines, fibre}
 use Rattle.rules.specs.Verdicts.{rowFails, howMany, WordVerdict}
-use Rattle.rules.specs.Lessons.{only, AllRight, lessons}
+use Rattle.rules.specs.Lessons.{AllRight, lessons}
 use Rattle.rules.specs.declared.Cause.the-variants.{Shortened, Check}
 use Rattle.rules.specs.declared.Verdict.the-variants.{Accepted, Rejected}
 use Rattle.rules.proofs.Tests.{every, every-at}
 use Rattle.rules.proofs.Counting.{howMany-same}
-use Rattle.rules.proofs.Checks.{check-zeros, check-single}
+use Rattle.rules.proofs.Checks.{only-at, only-elsewhere, check-zeros, check-only}
 
 -- the lessons on places, each by computing the whole column
 place-lessons : AllRight (take 5 lessons)
 unfolding checksOf one entry lines
 place-lessons = (refl, (refl, (refl, (refl, (refl, tt)))))
 
-only-elsewhere : (p n : ℕ) → (n ≡ p → ⊥) → only p n ≡ 0
-only-elsewhere p n d = rw (ne-eqb n p d)
-
-only-at : (p : ℕ) → only p p ≡ 1
-only-at p = rw (eq-eqb p p refl)
-
-check-only : (n p : ℕ) → p < 17664 → check fibre n (only p) ≡ one fibre n p
-check-only n p h = check-single fibre n p (only p) h (only-at p) (λ q l d. only-elsewhere p q d)
-
 -- the rows that fail where place p alone is 1 are those that p is in
 count-only : (p : ℕ) → p < 17664 → howMany 3072 (rowFails (only p)) ≡ howMany 3072 (λ m. eqb (one fibre m p) 1)
-count-only p h = howMany-same 3072 (rowFails (only p)) _ (λ m l. ap (λ (x : ℕ). eqb x 1) (check-only m p h))
+count-only p h = howMany-same 3072 (rowFails (only p)) _ (λ m l. ap (λ (x : ℕ). eqb x 1) (check-only fibre m p h))
 
 -- a 1 at place p, which is not shortened, fails the checks of p: first n, where p is in none below n
 first-check : (K p n k : ℕ) → p < 17664 → ((m : ℕ) → K ≤ m → m < 14592 → m ≡ p → ⊥) → n < 3072 → one fibre n p ≡ 1
@@ -45,8 +35,8 @@ first-check : (K p n k : ℕ) → p < 17664 → ((m : ℕ) → K ≤ m → m < 1
 first-check K p n k h s l e t c = (
   (λ m a. let z : only p m ≡ 0 = only-elsewhere p m (s m (a .0) (a .1)) in omega arith),
   (
-    (l, check-only n p h ∙ e),
-    λ m j a. omega (arith, sym (check-only m p h) ∙ a .1, eqb→eq (one fibre m p) 0 (every-at n (λ m. eqb (one fibre m p) 0) t m j)),
+    (l, check-only fibre n p h ∙ e),
+    λ m j a. omega (arith, sym (check-only fibre m p h) ∙ a .1, eqb→eq (one fibre m p) 0 (every-at n (λ m. eqb (one fibre m p) 0) t m j)),
   ),
   c ∙ sym (count-only p h),
 )

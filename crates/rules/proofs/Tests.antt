@@ -5,11 +5,14 @@
 --   every n f       f of every number below n
 --   X-left, -right  a part of a test that passes, passes
 --   all-at, all-in, every-at   what passes for all, passes for each
-use mathlib.Core.Bool.{Bool, true, false}
-use mathlib.Core.Logic.{⊎-elim}
+--   every-of        what passes for each number below n, passes for every
+--   some-not        where not every number below n passes, one of them fails
+use mathlib.Core.Bool.{Bool, true, false, not}
+use mathlib.Core.Logic.{_⊎_, inl, inr, ⊎-elim}
 use mathlib.Core.List.{List, [], _∷_}
 use Prim.Native.Nat.{ℕ, zero, suc, _<_}
 use native.Mathlib.Nat.{not-suc-le-zero, le-of-suc-le-suc, eq-or-lt-of-le}
+use native.Mathlib.Omega.{arith}
 use lib.Dec.{T}
 use lib.ListN.{length, getD}
 
@@ -48,3 +51,20 @@ every-at zero f t k h = absurd (not-suc-le-zero h)
 every-at (suc n) f t k h =
     ⊎-elim (λ e. rw e (both-left (f n) (every n f) t)) (λ l. every-at n f (both-right (f n) (every n f) t) k l)
     (eq-or-lt-of-le (le-of-suc-le-suc h))
+
+both-of : (a b : Bool) → T a → T b → T (both a b)
+both-of true b s t = t
+both-of false b s t = s
+
+pub every-of : (n : ℕ) (f : ℕ → Bool) → ((k : ℕ) → k < n → T (f k)) → T (every n f)
+every-of zero f h = tt
+every-of (suc n) f h = both-of (f n) (every n f) (h n (omega arith)) (every-of n f (λ k l. h k (omega arith)))
+
+both-not : (a b : Bool) → T (not (both a b)) → T (not a) ⊎ T (not b)
+both-not true b t = inr t
+both-not false b t = inl tt
+
+pub some-not : (n : ℕ) (f : ℕ → Bool) → T (not (every n f)) → (k : ℕ) × (k < n) × T (not (f k))
+some-not zero f t = absurd t
+some-not (suc n) f t =
+    ⊎-elim (λ a. (n, omega arith, a)) (λ b. let k = some-not n f b in (k .0, omega (arith, k .1), k .2)) (both-not (f n) (every n f) t)

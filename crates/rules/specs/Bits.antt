@@ -6,6 +6,7 @@
 --   need b           the bytes that a run of b bits takes: b / 8 rounded up
 --   UnusedSet s b    an unused high bit of s, which holds b bits, is 1
 --   zeros            0 at every place
+--   only p           1 at place p, and 0 elsewhere
 --   run b x y        b bits of x, then y from its place 0 on
 --   placed h b x     b bits of x at the places h to h + b - 1, and 0 elsewhere
 --   sum x y          the sum mod 2 of x and y, place by place
@@ -16,7 +17,7 @@ use mathlib.Core.Path.{_≡_}
 use mathlib.Core.Bool.{cond}
 use mathlib.Core.List.{List}
 use Prim.Native.Nat.{ℕ, _+_, _-_, _*_, _/_, _%_, _^_, _≤_, _<_}
-use lib.Dec.{ltb}
+use lib.Dec.{ltb, eqb}
 use lib.ListN.{length, getD, drop}
 
 abbrev pub bit : List ℕ → ℕ → ℕ
@@ -33,6 +34,9 @@ UnusedSet s b = (n : ℕ) × (b ≤ n) × (bit s n ≡ 1)
 
 abbrev pub zeros : ℕ → ℕ
 zeros n = 0
+
+abbrev pub only : ℕ → ℕ → ℕ
+only p n = cond (eqb n p) 1 0
 
 unfoldable pub run : ℕ → (ℕ → ℕ) → (ℕ → ℕ) → ℕ → ℕ
 run b x y n = cond (ltb n b) (x n) (y (n - b))

@@ -1,7 +1,6 @@
 -- Paper 01, 'Lesson sheet', with the payload counts of W4 and the failing rows of W3 of paper 02.
 -- The ten lessons marked P, in one table, and what it is for a lesson to be right.
 --
---   only p        the word that has a 1 at place p alone
 --   place p ns    a lesson: place p is in the checks ns
 --   word w K v    a lesson: the full word w with payload count K has the verdict v
 --   Right         what a lesson claims of the definitions
@@ -10,20 +9,15 @@
 --
 -- Believe this file beside the paper. LessonLaws proves AllRight lessons.
 use mathlib.Core.Path.{_≡_}
-use mathlib.Core.Bool.{cond}
 use mathlib.Core.List.{List, [], _∷_}
 use Prim.Native.Nat.{ℕ}
-use lib.Dec.{eqb}
-use Rattle.rules.specs.Bits.{zeros}
+use Rattle.rules.specs.Bits.{zeros, only}
 use Rattle.rules.specs.Matrix.{checksOf}
 use Rattle.rules.specs.Table.{fibre}
 use Rattle.rules.specs.Verdicts.{WordVerdict}
 use Rattle.rules.specs.declared.Cause.the-variants.{Shortened, Check}
 use Rattle.rules.specs.declared.Verdict.{Verdict}
 use Rattle.rules.specs.declared.Verdict.the-variants.{Accepted, Rejected}
-
-abbrev pub only : ℕ → ℕ → ℕ
-only p n = cond (eqb n p) 1 0
 
 pub data Lesson : Type 0 where
   place : ℕ → List ℕ → Lesson
