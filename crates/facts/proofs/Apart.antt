@@ -9,40 +9,39 @@ use Prim.Native.Nat.{ℕ, _+_, _*_, _/_, _%_, _<_}
 use native.Mathlib.Nat.{mod-lt, mod-eq-of-lt, div-add-mod}
 use native.Mathlib.Decide.{decLt}
 use native.Mathlib.Omega.{arith}
-use lib.Dec.{T, T-not, eqb, eqb→eq}
+use lib.Dec.{T, T-not, eqb, eqb→eq, eqb-refl}
 use lib.IntN.{ℤ, pos, negsuc}
-use borrow.Author.Tests.{eq-eqb}
 use Rattle.rules.specs.Matrix.{Code, places, entry, block, checksOf}
 use Rattle.rules.proofs.Tests.{every, every-at, every-of}
 use Rattle.rules.proofs.Checks.{place-below, block-some, block-below}
 use Rattle.laws.proofs.Around.{around-swap, around-cancel, around-meet, around-back}
 use Rattle.facts.specs.Claims.{PlacesApart}
-use Rattle.facts.specs.Lines.{used, paired, rowByRow, sameStep, alike, apart}
+use Rattle.facts.specs.Lines.{used, paired, rowByRow, asFar, alike, apart}
 use Rattle.facts.proofs.Places.{one-at, has-one, line-turn}
 use Rattle.facts.proofs.Members.{checks-told}
 
 is-equal : (m n : ℕ) → m ≡ n → T (eqb m n)
-is-equal m n e = subst T (sym (eq-eqb m n e)) tt
+is-equal m n e = rw e (eqb-refl n)
 
 -- column t of the block of turn x has its one in the row where column s of the block of turn y has its own
 abbrev meets : ℕ → ℕ → ℕ → ℕ → ℕ → Bool
 meets z t s x y = eqb ((s + x) % z) ((t + y) % z)
 
--- a place is in a check or not, as the test says
+-- column t of the block of entry a has its one in row r
 abbrev lies : ℕ → ℤ → ℕ → ℕ → Bool
 lies z a t r = eqb (block z a r t) 1
 
+is-one : (b : Bool) → T (eqb (cond b 1 0) 1) → T b
+is-one true e = tt
+is-one false e = e
+
 module _ (z : ℕ) (some : 0 < z) where
-  -- where column t of the block of turn x has its one, so has what lies in the same rows
+  -- in the row where column t of the block of turn x has its one, a column with the same rows has one too
   lies-too : (t x : ℕ) → t < z → (b : ℤ) (s : ℕ) → ((r : ℕ) → r < z → lies z (pos x) t r ≡ lies z b s r)
       → (r : ℕ) × ((r + x) % z ≡ t) × T (lies z b s r)
   lies-too t x h b s same =
       let r = around-back z some t x h in
       (r .0, r .2, subst T (ap (λ (o : ℕ). eqb o 1) (sym (has-one z x (r .0) t (r .2))) ∙ same (r .0) (r .1)) tt)
-
-  is-one : (b : Bool) → T (eqb (cond b 1 0) 1) → T b
-  is-one true e = tt
-  is-one false e = e
 
   blocks-meet : (t s : ℕ) → t < z → s < z → (a b : ℤ) → ((r : ℕ) → r < z → lies z a t r ≡ lies z b s r) → T (paired a b (meets z t s))
   blocks-meet t s ht hs (pos x) (pos y) same =
@@ -86,14 +85,14 @@ module _ (c : Code) (p q : ℕ) (hp : p < places c) (same : checksOf c p ≡ che
 
   pub lines-alike : T (alike c (p / z) (q / z))
   lines-alike =
-      rows-each c (p / z) (q / z) meet (λ x y. rowByRow c (p / z) (q / z) (sameStep z x y))
-      (λ x y e. rows-each c (p / z) (q / z) meet (sameStep z x y) (step x y e) met) met
+      rows-each c (p / z) (q / z) meet (λ x y. rowByRow c (p / z) (q / z) (asFar z x y))
+      (λ x y e. rows-each c (p / z) (q / z) meet (asFar z x y) (far x y e) met) met
     where
       met : T (rowByRow c (p / z) (q / z) meet)
       met = every-of (c .rows) (λ i. paired (entry c i (p / z)) (entry c i (q / z)) meet) row-meets
 
-      step : (x y : ℕ) → T (meet x y) → (u v : ℕ) → T (meet u v) → T (sameStep z x y u v)
-      step x y e u v f =
+      far : (x y : ℕ) → T (meet x y) → (u v : ℕ) → T (meet u v) → T (asFar z x y u v)
+      far x y e u v f =
           is-equal ((x + v) % z) ((u + y) % z) (around-meet z some (q % z) (p % z) x y u v (eqb→eq _ _ e) (eqb→eq _ _ f))
 
   -- a row in which the line has a turn tells the column

@@ -5,7 +5,7 @@
 --   used c               no line is empty
 --   paired a b f         two entries of one row: f of them where both are turns; passed where neither is, failed where one is
 --   rowByRow c j k f     the entries of lines j and k, paired in each row
---   sameStep z x y u v   it is as far from y to x, round a block of z, as from v to u
+--   asFar z x y u v      it is as far from y to x, round a block of z, as from v to u
 --   alike c j k          lines j and k have turns in the same rows, and all these turns are equally far apart
 --   apart c              no two lines are alike
 --
@@ -36,11 +36,11 @@ paired (negsuc m) (negsuc n) f = true
 abbrev pub rowByRow : Code → ℕ → ℕ → (ℕ → ℕ → Bool) → Bool
 rowByRow c j k f = every (c .rows) (λ i. paired (entry c i j) (entry c i k) f)
 
-abbrev pub sameStep : ℕ → ℕ → ℕ → ℕ → ℕ → Bool
-sameStep z x y u v = eqb ((x + v) % z) ((u + y) % z)
+abbrev pub asFar : ℕ → ℕ → ℕ → ℕ → ℕ → Bool
+asFar z x y u v = eqb ((x + v) % z) ((u + y) % z)
 
 abbrev pub alike : Code → ℕ → ℕ → Bool
-alike c j k = rowByRow c j k (λ x y. rowByRow c j k (λ u v. sameStep (c .size) x y u v))
+alike c j k = rowByRow c j k (λ x y. rowByRow c j k (λ u v. asFar (c .size) x y u v))
 
 abbrev pub apart : Code → Bool
 apart c = every (c .columns) (λ k. every k (λ j. not (alike c j k)))
