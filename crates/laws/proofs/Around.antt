@@ -1,9 +1,9 @@
--- Laws of going round a block of z: of remainders by z.
+-- Laws of going round a block of z, that is, of remainders by z.
 --
 --   around-swap      two turns, the one or the other first
 --   around-cancel    what is added to both of two numbers can be left out
---   around-meet      where x leads from s to what y leads to from t, and so u and v, x and y differ as u and v do
---   around-back      each column t of the block of turn x has its one in some row
+--   around-meet      where s + x and t + y come to the same, and s + u and t + v too, x and y are as far apart as u and v
+--   around-back      there is a row from which x further on is column t
 use mathlib.Core.Path.{_≡_, sym, ap, ap₂, _∙_}
 use Prim.Native.Nat.{ℕ, suc, _+_, _-_, _*_, _%_, _<_}
 use native.Mathlib.Nat.{add-mod, mod-add-mod, mod-lt, mod-eq-of-lt, mul-suc, add-mul-mod-self-right}

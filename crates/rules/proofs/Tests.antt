@@ -5,7 +5,7 @@
 --   every n f       f of every number below n
 --   X-left, -right  a part of a test that passes, passes
 --   all-at, all-in, every-at   what passes for all, passes for each
---   every-of        what passes for each number below n, passes for every
+--   every-of        what passes for each number below n, passes for every one
 --   some-not        where not every number below n passes, one of them fails
 use mathlib.Core.Bool.{Bool, true, false, not}
 use mathlib.Core.Logic.{_⊎_, inl, inr, ⊎-elim}
