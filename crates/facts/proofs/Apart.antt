@@ -16,7 +16,7 @@ use Rattle.rules.proofs.Tests.{every, every-at, every-of}
 use Rattle.rules.proofs.Checks.{place-below, block-some, block-below}
 use Rattle.laws.proofs.Around.{around-swap, around-cancel, around-meet, around-back}
 use Rattle.facts.specs.Claims.{PlacesApart}
-use Rattle.facts.specs.Lines.{used, paired, rowByRow, asFar, alike, apart}
+use Rattle.facts.specs.Lines.{noneEmpty, paired, rowByRow, asFar, alike, noneAlike}
 use Rattle.facts.proofs.Places.{one-at, has-one, line-turn}
 use Rattle.facts.proofs.Members.{checks-told}
 
@@ -96,7 +96,7 @@ module _ (c : Code) (p q : ℕ) (hp : p < places c) (same : checksOf c p ≡ che
           is-equal ((x + v) % z) ((u + y) % z) (around-meet z some (q % z) (p % z) x y u v (eqb→eq _ _ e) (eqb→eq _ _ f))
 
   -- a row in which the line has a turn tells the column
-  pub one-line : T (used c) → p / z ≡ q / z → p ≡ q
+  pub one-line : T (noneEmpty c) → p / z ≡ q / z → p ≡ q
   one-line u e =
       let i = line-turn c u (p / z) (block-below z (c .columns) p hp) in
       let there : entry c (i .0) (q / z) ≡ pos (i .2) = ap (entry c (i .0)) (sym e) ∙ i .3 in
@@ -107,11 +107,11 @@ module _ (c : Code) (p q : ℕ) (hp : p < places c) (same : checksOf c p ≡ che
       ∙ div-add-mod q z
 
 -- the test of a line and an earlier one
-told-apart : (c : Code) → T (apart c) → (j k : ℕ) → j < k → k < c .columns → T (alike c j k) → ⊥
+told-apart : (c : Code) → T (noneAlike c) → (j k : ℕ) → j < k → k < c .columns → T (alike c j k) → ⊥
 told-apart c a j k l h =
     T-not (alike c j k) (every-at k (λ j. not (alike c j k)) (every-at (c .columns) (λ k. every k (λ j. not (alike c j k))) a k h) j l)
 
-pub places-apart : (c : Code) → T (used c) → T (apart c) → PlacesApart c
+pub places-apart : (c : Code) → T (noneEmpty c) → T (noneAlike c) → PlacesApart c
 places-apart c u a p q hp hq same = elim (decLt (p / c .size) (q / c .size)) [
   | yes l ↦ absurd (told-apart c a _ _ l (block-below (c .size) (c .columns) q hq) (lines-alike c p q hp same))
   | no l ↦ elim (decLt (q / c .size) (p / c .size)) [

@@ -12,7 +12,7 @@ use Rattle.rules.specs.Bits.{zeros, only, sum}
 use Rattle.rules.specs.Matrix.{Code, places, one, check}
 use Rattle.rules.proofs.Checks.{one-below, check-below, check-same, check-zeros, check-sum, check-only}
 use Rattle.facts.specs.Claims.{changed, ChangeBreaksOwn, ChangeBreaks}
-use Rattle.facts.specs.Lines.{used}
+use Rattle.facts.specs.Lines.{noneEmpty}
 use Rattle.facts.proofs.Places.{place-in}
 
 -- mod 2, a change is the sum with a 1 at that place alone
@@ -30,5 +30,5 @@ check-changed c n p w h =
 pub change-breaks-own : (c : Code) → ChangeBreaksOwn c
 change-breaks-own c p w h hold n l = omega (arith, check-changed c n p w h, hold n l, one-below c n p)
 
-pub change-breaks : (c : Code) → T (used c) → ChangeBreaks c
+pub change-breaks : (c : Code) → T (noneEmpty c) → ChangeBreaks c
 change-breaks c u p w h hold = let n = place-in c u p h in (n .0, n .1, change-breaks-own c p w h hold (n .0) (n .1) ∙ n .2)

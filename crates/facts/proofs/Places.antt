@@ -15,7 +15,7 @@ use Rattle.rules.specs.Matrix.{Code, places, checks, entry, block, one}
 use Rattle.rules.proofs.Tests.{every-at, some-not}
 use Rattle.rules.proofs.Checks.{block-of, local-of, place-below, block-some, block-below}
 use Rattle.laws.proofs.Around.{around-back}
-use Rattle.facts.specs.Lines.{isNone, empty, used}
+use Rattle.facts.specs.Lines.{isNone, empty, noneEmpty}
 
 pub one-at : (c : Code) (i r p : ℕ) → r < c .size
     → one c (c .size * i + r) p ≡ block (c .size) (entry c i (p / c .size)) r (p % c .size)
@@ -29,13 +29,13 @@ is-turn : (a : ℤ) → T (not (isNone a)) → (x : ℕ) × (a ≡ pos x)
 is-turn (pos x) t = (x, refl)
 is-turn (negsuc n) t = absurd t
 
-pub line-turn : (c : Code) → T (used c) → (j : ℕ) → j < c .columns → (i : ℕ) × (i < c .rows) × (x : ℕ) × (entry c i j ≡ pos x)
+pub line-turn : (c : Code) → T (noneEmpty c) → (j : ℕ) → j < c .columns → (i : ℕ) × (i < c .rows) × (x : ℕ) × (entry c i j ≡ pos x)
 line-turn c u j h =
     let i = some-not (c .rows) (λ i. isNone (entry c i j)) (every-at (c .columns) (λ j. not (empty c j)) u j h) in
     let x = is-turn (entry c (i .0) j) (i .2) in
     (i .0, i .1, x .0, x .1)
 
-pub place-in : (c : Code) → T (used c) → (p : ℕ) → p < places c → (n : ℕ) × (n < checks c) × (one c n p ≡ 1)
+pub place-in : (c : Code) → T (noneEmpty c) → (p : ℕ) → p < places c → (n : ℕ) × (n < checks c) × (one c n p ≡ 1)
 place-in c u p h =
     let some : 0 < c .size = block-some (c .size) (c .columns) p h in
     let i = line-turn c u (p / c .size) (block-below (c .size) (c .columns) p h) in

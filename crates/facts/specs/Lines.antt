@@ -2,12 +2,12 @@
 --
 --   isNone a             the entry a is -1, a zero block
 --   empty c j            all entries of line j are -1
---   used c               no line is empty
+--   noneEmpty c          no line is empty
 --   paired a b f         two entries of one row: f of them where both are turns; passed where neither is, failed where one is
 --   rowByRow c j k f     the entries of lines j and k, paired in each row
 --   asFar z x y u v      it is as far from y to x, round a block of z, as from v to u
 --   alike c j k          lines j and k have turns in the same rows, and all these turns are equally far apart
---   apart c              no two lines are alike
+--   noneAlike c          no two lines are alike
 --
 -- Nothing here is proved.
 use mathlib.Core.Bool.{Bool, true, false, not}
@@ -24,8 +24,8 @@ isNone (negsuc n) = true
 abbrev pub empty : Code → ℕ → Bool
 empty c j = every (c .rows) (λ i. isNone (entry c i j))
 
-abbrev pub used : Code → Bool
-used c = every (c .columns) (λ j. not (empty c j))
+abbrev pub noneEmpty : Code → Bool
+noneEmpty c = every (c .columns) (λ j. not (empty c j))
 
 abbrev pub paired : ℤ → ℤ → (ℕ → ℕ → Bool) → Bool
 paired (pos x) (pos y) f = f x y
@@ -40,7 +40,7 @@ abbrev pub asFar : ℕ → ℕ → ℕ → ℕ → ℕ → Bool
 asFar z x y u v = eqb ((x + v) % z) ((u + y) % z)
 
 abbrev pub alike : Code → ℕ → ℕ → Bool
-alike c j k = rowByRow c j k (λ x y. rowByRow c j k (λ u v. asFar (c .size) x y u v))
+alike c j k = rowByRow c j k (λ x y. rowByRow c j k (asFar (c .size) x y))
 
-abbrev pub apart : Code → Bool
-apart c = every (c .columns) (λ k. every k (λ j. not (alike c j k)))
+abbrev pub noneAlike : Code → Bool
+noneAlike c = every (c .columns) (λ k. every k (λ j. not (alike c j k)))
