@@ -1,4 +1,4 @@
--- Fact 3: one changed place breaks a check. Any block size; ChangeBreaks asks that no line of the table is empty.
+-- Fact 3: one changed place breaks a check. Any block size, any table; that there is such a check asks that no line is empty.
 --
 --   check-changed        a check after the change is the check before it and the matrix's number there, added mod 2
 --   change-breaks-own    the checks that break are those that the place is in
