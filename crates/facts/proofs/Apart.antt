@@ -3,8 +3,8 @@
 --   lines-alike     the lines of two places that lie in the same checks are alike
 --   one-line        of one line, they are one place
 --   places-apart    where no line is empty and no two are alike, no two places lie in the same checks
-use mathlib.Core.Path.{_≡_, sym, ap, ap₂, subst, _∙_}
-use mathlib.Core.Bool.{Bool, true, false, cond, not}
+use mathlib.Core.Path.{_≡_, sym, ap, ap₂, _∙_}
+use mathlib.Core.Bool.{Bool, not}
 use Prim.Native.Nat.{ℕ, _+_, _*_, _/_, _%_, _<_}
 use native.Mathlib.Nat.{mod-lt, mod-eq-of-lt, div-add-mod}
 use native.Mathlib.Decide.{decLt}
@@ -17,7 +17,7 @@ use Rattle.rules.proofs.Checks.{place-below, block-some, block-below}
 use Rattle.laws.proofs.Around.{around-swap, around-cancel, around-meet, around-back}
 use Rattle.facts.specs.Claims.{PlacesApart}
 use Rattle.facts.specs.Lines.{noneEmpty, paired, rowByRow, asFar, alike, noneAlike}
-use Rattle.facts.proofs.Places.{one-at, has-one, line-turn}
+use Rattle.facts.proofs.Places.{one-at, has-one, where-one, line-turn}
 use Rattle.facts.proofs.Members.{checks-told}
 
 is-equal : (m n : ℕ) → m ≡ n → T (eqb m n)
@@ -27,30 +27,21 @@ is-equal m n e = rw e (eqb-refl n)
 abbrev meets : ℕ → ℕ → ℕ → ℕ → ℕ → Bool
 meets z t s x y = eqb ((s + x) % z) ((t + y) % z)
 
--- column t of the block of entry a has its one in row r
-abbrev lies : ℕ → ℤ → ℕ → ℕ → Bool
-lies z a t r = eqb (block z a r t) 1
-
-is-one : (b : Bool) → T (eqb (cond b 1 0) 1) → T b
-is-one true e = tt
-is-one false e = e
-
 module _ (z : ℕ) (some : 0 < z) where
-  -- in the row where column t of the block of turn x has its one, a column with the same rows has one too
-  lies-too : (t x : ℕ) → t < z → (b : ℤ) (s : ℕ) → ((r : ℕ) → r < z → lies z (pos x) t r ≡ lies z b s r)
-      → (r : ℕ) × ((r + x) % z ≡ t) × T (lies z b s r)
-  lies-too t x h b s same =
+  -- in the row where column t of the block of turn x has its one, a column with the same numbers has one too
+  one-too : (t x : ℕ) → t < z → (b : ℤ) (s : ℕ) → ((r : ℕ) → r < z → block z (pos x) r t ≡ block z b r s)
+      → (r : ℕ) × ((r + x) % z ≡ t) × (block z b r s ≡ 1)
+  one-too t x h b s same =
       let r = around-back z some t x h in
-      (r .0, r .2, subst T (ap (λ (o : ℕ). eqb o 1) (sym (has-one z x (r .0) t (r .2))) ∙ same (r .0) (r .1)) tt)
+      (r .0, r .2, sym (same (r .0) (r .1)) ∙ has-one z x (r .0) t (r .2))
 
-  blocks-meet : (t s : ℕ) → t < z → s < z → (a b : ℤ) → ((r : ℕ) → r < z → lies z a t r ≡ lies z b s r) → T (paired a b (meets z t s))
+  blocks-meet : (t s : ℕ) → t < z → s < z → (a b : ℤ) → ((r : ℕ) → r < z → block z a r t ≡ block z b r s) → T (paired a b (meets z t s))
   blocks-meet t s ht hs (pos x) (pos y) same =
-      let r = lies-too t x ht (pos y) s same in
-      let e : s ≡ (r .0 + y) % z = eqb→eq s ((r .0 + y) % z) (is-one (eqb s ((r .0 + y) % z)) (r .2)) in
+      let r = one-too t x ht (pos y) s same in
       is-equal ((s + x) % z) ((t + y) % z)
-      (ap (λ (n : ℕ). (n + x) % z) e ∙ around-swap z (r .0) y x ∙ ap (λ (n : ℕ). (n + y) % z) (r .1))
-  blocks-meet t s ht hs (pos x) (negsuc n) same = lies-too t x ht (negsuc n) s same .2
-  blocks-meet t s ht hs (negsuc m) (pos y) same = lies-too s y hs (negsuc m) t (λ r l. sym (same r l)) .2
+      (ap (λ (n : ℕ). (n + x) % z) (where-one z y (r .0) s (r .2)) ∙ around-swap z (r .0) y x ∙ ap (λ (n : ℕ). (n + y) % z) (r .1))
+  blocks-meet t s ht hs (pos x) (negsuc n) same = absurd (omega (arith, one-too t x ht (negsuc n) s same .2))
+  blocks-meet t s ht hs (negsuc m) (pos y) same = absurd (omega (arith, one-too s y hs (negsuc m) t (λ r l. sym (same r l)) .2))
   blocks-meet t s ht hs (negsuc m) (negsuc n) same = tt
 
 -- what follows for each pair of turns, follows row by row
@@ -79,9 +70,7 @@ module _ (c : Code) (p q : ℕ) (hp : p < places c) (same : checksOf c p ≡ che
   row-meets : (i : ℕ) → i < c .rows → T (paired (entry c i (p / z)) (entry c i (q / z)) meet)
   row-meets i h =
       blocks-meet z some (p % z) (q % z) (mod-lt p some) (mod-lt q some) (entry c i (p / z)) (entry c i (q / z))
-      (λ r l. ap (λ (o : ℕ). eqb o 1) (sym (one-at c i r p l))
-      ∙ checks-told c p q same (z * i + r) (place-below z i (c .rows) r h l)
-      ∙ ap (λ (o : ℕ). eqb o 1) (one-at c i r q l))
+      (λ r l. sym (one-at c i r p l) ∙ checks-told c p q same (z * i + r) (place-below z i (c .rows) r h l) ∙ one-at c i r q l)
 
   pub lines-alike : T (alike c (p / z) (q / z))
   lines-alike =

@@ -2,7 +2,7 @@
 --
 --   among n ns     n is one of ns
 --   among-checks   a check is among those of place p, where its row has a one there
---   checks-told    places with one list have ones in the same rows
+--   checks-told    places with one list have the same numbers in every row
 use mathlib.Core.Path.{_≡_, refl, sym, ap, ap₂, _∙_}
 use mathlib.Core.Bool.{Bool, true, false, cond, _||_, or-false, or-assoc}
 use mathlib.Core.List.{List, [], _∷_, _++_}
@@ -13,6 +13,8 @@ use native.Mathlib.Omega.{arith}
 use lib.Dec.{eqb}
 use borrow.Author.Tests.{eq-eqb, ne-eqb}
 use Rattle.rules.specs.Matrix.{Code, checks, one, checksBelow, checksOf}
+use Rattle.rules.proofs.Tests.{number, number-bit}
+use Rattle.rules.proofs.Checks.{one-below}
 
 abbrev pub among : ℕ → List ℕ → Bool
 among n [] = false
@@ -52,5 +54,8 @@ module _ (c : Code) (p : ℕ) where
   unfolding checksOf
   among-checks n h = among-below (checks c) n h
 
-pub checks-told : (c : Code) (p q : ℕ) → checksOf c p ≡ checksOf c q → (n : ℕ) → n < checks c → eqb (one c n p) 1 ≡ eqb (one c n q) 1
-checks-told c p q e n h = sym (among-checks c p n h) ∙ ap (among n) e ∙ among-checks c q n h
+pub checks-told : (c : Code) (p q : ℕ) → checksOf c p ≡ checksOf c q → (n : ℕ) → n < checks c → one c n p ≡ one c n q
+checks-told c p q e n h =
+    sym (number-bit (one c n p) (one-below c n p))
+    ∙ ap number (sym (among-checks c p n h) ∙ ap (among n) e ∙ among-checks c q n h)
+    ∙ number-bit (one c n q) (one-below c n q)

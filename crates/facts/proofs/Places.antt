@@ -1,18 +1,19 @@
 -- Which checks a place is in, by the line of its block. Any block size, any table.
 --
 --   one-at       row r of block row i, at place p: by the entry there
---   has-one      row r of the block of turn x has its one at column t
+--   has-one      row r of the block of turn x has its one x further on
+--   where-one    and nowhere else
 --   line-turn    a line that is not empty has a turn
 --   place-in     so every place is in a check
-use mathlib.Core.Path.{_≡_, refl, sym, ap, _∙_}
+use mathlib.Core.Path.{_≡_, refl, sym, ap, subst, _∙_}
 use mathlib.Core.Bool.{not}
 use Prim.Native.Nat.{ℕ, _+_, _*_, _/_, _%_, _<_}
 use native.Mathlib.Nat.{mod-lt}
-use lib.Dec.{T}
+use lib.Dec.{T, eqb, eqb→eq}
 use lib.IntN.{ℤ, pos, negsuc}
 use borrow.Author.Tests.{eq-eqb}
 use Rattle.rules.specs.Matrix.{Code, places, checks, entry, block, one}
-use Rattle.rules.proofs.Tests.{every-at, some-not}
+use Rattle.rules.proofs.Tests.{every-at, some-not, number-told}
 use Rattle.rules.proofs.Checks.{block-of, local-of, place-below, block-some, block-below}
 use Rattle.laws.proofs.Around.{around-back}
 use Rattle.facts.specs.Lines.{isNone, empty, noneEmpty}
@@ -24,6 +25,9 @@ one-at c i r p h = rw (block-of (c .size) i r h, local-of (c .size) i r h)
 
 pub has-one : (z x r t : ℕ) → (r + x) % z ≡ t → block z (pos x) r t ≡ 1
 has-one z x r t e = rw (eq-eqb t ((r + x) % z) (sym e))
+
+pub where-one : (z x r t : ℕ) → block z (pos x) r t ≡ 1 → t ≡ (r + x) % z
+where-one z x r t e = eqb→eq t ((r + x) % z) (subst T (sym (ap (λ (n : ℕ). eqb n 1) e) ∙ number-told (eqb t ((r + x) % z))) tt)
 
 is-turn : (a : ℤ) → T (not (isNone a)) → (x : ℕ) × (a ≡ pos x)
 is-turn (pos x) t = (x, refl)

@@ -28,11 +28,12 @@ use Rattle.rules.specs.Matrix.{Code, check}
 use Rattle.rules.specs.Table.{fibre}
 use Rattle.rules.specs.Streams.{Added}
 use Rattle.rules.specs.Words.{fullWord, Parity, OwnChecks}
+use Rattle.rules.proofs.Tests.{number, number-below}
 use Rattle.rules.proofs.Checks.{check-below, check-same, check-zeros, check-sum}
 use Rattle.laws.proofs.Bits.{bit<, bit-zeros, bits-same, pack, length-pack, bytes-pack, bit-pack}
 use Rattle.laws.proofs.Runs.{run-low, run-high, run-each}
 use Rattle.recipes.proofs.Recipe.{Blocks, only, Near, follow, flat}
-use Rattle.recipes.proofs.Places.{number, bits, number-below}
+use Rattle.recipes.proofs.Places.{bits}
 use Rattle.recipes.proofs.Parity.{parity-single, parity-found}
 use Rattle.parity.proofs.Recipe.{recipe}
 use Rattle.parity.proofs.Solved.{fibre-solves}

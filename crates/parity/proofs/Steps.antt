@@ -23,12 +23,12 @@ use lib.ListN.{length, getD, take, drop, length-take, length-drop}
 use borrow.Author.Tests.{eq-eqb, ne-eqb, lt-ltb, le-ltb}
 use Rattle.rules.specs.Bits.{bit}
 use Rattle.rules.specs.Words.{OwnChecks}
-use Rattle.rules.proofs.Tests.{both, both-left, both-right, all, all-in}
+use Rattle.rules.proofs.Tests.{both, both-left, both-right, all, all-in, number, number-bit}
 use Rattle.laws.proofs.Bits.{bit<, bit-take, bit-part}
 use Rattle.laws.proofs.Runs.{placed-in, placed-each}
 use Rattle.recipes.proofs.Sums.{_⊕_}
 use Rattle.recipes.proofs.Recipe.{Blocks, Near, Step, add, step, follow, flat, only, follow-more, step-near}
-use Rattle.recipes.proofs.Places.{number, bits, number-bit}
+use Rattle.recipes.proofs.Places.{bits}
 use Rattle.bits.specs.Adds.{Adds}
 use Rattle.parity.specs.Registers.{addend}
 use Rattle.parity.proofs.Recipe.{recipe}

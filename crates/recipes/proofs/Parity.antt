@@ -20,7 +20,7 @@ use lib.IntN.{ℤ, pos, negsuc}
 use Rattle.rules.specs.Bits.{zeros, run}
 use Rattle.rules.specs.Matrix.{Code, checks, entry, total, check}
 use Rattle.rules.specs.Terms.{spot, term}
-use Rattle.rules.proofs.Tests.{all, every}
+use Rattle.rules.proofs.Tests.{all, every, number, number-bit, number-below}
 use Rattle.rules.proofs.Sums.{total-none}
 use Rattle.rules.proofs.Checks.{place-below, check-below, check-columns}
 use Rattle.laws.proofs.Runs.{run-low, run-high}
@@ -29,7 +29,7 @@ use Rattle.recipes.proofs.Recipe.{Blocks, only, Near, follow, Group, fl
 use Rattle.recipes.proofs.Blocks.{seen, blockChecks, checks-near, only-near}
 use Rattle.recipes.proofs.Computed.{back, forth}
 use Rattle.recipes.proofs.Solve.{blocks-again, blocks-found}
-use Rattle.recipes.proofs.Places.{number, AreBits, bits, number-sum, number-bit, number-below, bits-same, bits-number}
+use Rattle.recipes.proofs.Places.{AreBits, bits, number-sum, bits-same, bits-number}
 
 abbrev pub parityEntry : Code → ℕ → ℕ → ℕ → ℤ
 parityEntry c k i j = entry c i (k + j)

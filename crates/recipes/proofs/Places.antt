@@ -1,26 +1,20 @@
 -- Runs of bits as blocks of bits: place Z * k + r of a run is bit r of block k.
 --
---   number b          a bit as a number: 1 or 0
 --   AreBits b p       the first b places of p are bits: below 2
 --   bits Z p          the run of bits p as blocks of Z bits
 --
 --   number-sum        the sum of two bits mod 2
---   number-bit        a number that is a bit
---   number-below      a bit as a number is one
 --   bits-same         runs are the same where their blocks are
 --   bits-number       a run that has the bits of given blocks
 use mathlib.Core.Path.{_≡_, refl, sym, ap, ap₂, _∙_}
-use mathlib.Core.Bool.{Bool, true, false, cond}
-use Prim.Native.Nat.{ℕ, zero, suc, _+_, _*_, _/_, _%_, _<_}
+use mathlib.Core.Bool.{Bool, true, false}
+use Prim.Native.Nat.{ℕ, _+_, _*_, _/_, _%_, _<_}
 use native.Mathlib.Nat.{mod-lt, div-add-mod}
-use native.Mathlib.Omega.{arith}
-use lib.Dec.{eqb, lit<}
+use lib.Dec.{eqb}
+use Rattle.rules.proofs.Tests.{number, number-bit, number-told}
 use Rattle.rules.proofs.Checks.{block-of, local-of, place-below, block-below}
 use Rattle.recipes.proofs.Sums.{_⊕_}
 use Rattle.recipes.proofs.Recipe.{Blocks, Near}
-
-abbrev pub number : Bool → ℕ
-number b = cond b 1 0
 
 abbrev pub AreBits : ℕ → (ℕ → ℕ) → Type 0
 AreBits b p = (t : ℕ) → t < b → p t < 2
@@ -33,19 +27,6 @@ number-sum true true = refl
 number-sum true false = refl
 number-sum false true = refl
 number-sum false false = refl
-
-pub number-bit : (a : ℕ) → a < 2 → number (eqb a 1) ≡ a
-number-bit zero h = refl
-number-bit (suc zero) h = refl
-number-bit (suc (suc a)) h = absurd (omega arith)
-
-pub number-below : (b : Bool) → number b < 2
-number-below true = lit< tt
-number-below false = lit< tt
-
-bit-number : (b : Bool) → eqb (number b) 1 ≡ b
-bit-number true = refl
-bit-number false = refl
 
 bits-at : (Z : ℕ) (p : ℕ → ℕ) (t : ℕ) → bits Z p (t / Z) (t % Z) ≡ eqb (p t) 1
 bits-at Z p t = ap (λ (n : ℕ). eqb (p n) 1) (div-add-mod t Z)
@@ -61,5 +42,5 @@ pub bits-number : (Z m : ℕ) (p : ℕ → ℕ) (x : Blocks) → ((t : ℕ) → 
     → Near Z m (bits Z p) x
 bits-number Z m p x h i r hi hr =
     ap (λ (a : ℕ). eqb a 1) (h (Z * i + r) (place-below Z i m r hi hr))
-    ∙ bit-number _
+    ∙ number-told _
     ∙ ap₂ x (block-of Z i r hr) (local-of Z i r hr)

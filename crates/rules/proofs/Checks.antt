@@ -13,7 +13,7 @@
 --   only-at, only-elsewhere   the word with a 1 at place p alone: 1 there, 0 elsewhere
 --   check-only       its check n is row n, place p of the matrix
 use mathlib.Core.Path.{_≡_, refl, sym, ap, _∙_}
-use mathlib.Core.Bool.{Bool, true, false, cond}
+use mathlib.Core.Bool.{cond}
 use Prim.Native.Nat.{ℕ, zero, suc, _+_, _*_, _/_, _%_, _<_}
 use native.Mathlib.Nat.{add-mod, mod-lt, mod-eq-of-lt, mul-one, mul-zero, zero-mul, one-mul, suc-mul, mul-suc, mul-add, mul-comm}
 use native.Mathlib.Nat.{mul-le-mul-left, div-lt-iff-lt-mul}
@@ -25,6 +25,7 @@ use borrow.Author.Tests.{eq-eqb, ne-eqb}
 use Rattle.rules.specs.Bits.{zeros, only, sum}
 use Rattle.rules.specs.Matrix.{Code, places, entry, block, one, total, check}
 use Rattle.rules.specs.Terms.{spot, term}
+use Rattle.rules.proofs.Tests.{number-below}
 use Rattle.rules.proofs.Sums.{total-same, total-none, total-add, total-mod, total-one, total-blocks}
 
 pub block-of : (z j t : ℕ) → t < z → (z * j + t) / z ≡ j
@@ -100,11 +101,7 @@ unfolding one
 one-below c n p = of (entry c (n / c .size) (p / c .size))
   where
     of : (a : ℤ) → block (c .size) a (n % c .size) (p % c .size) < 2
-    of (pos a) = bit (eqb (p % c .size) ((n % c .size + a) % c .size))
-      where
-        bit : (b : Bool) → cond b 1 0 < 2
-        bit true = lit< tt
-        bit false = lit< tt
+    of (pos a) = number-below (eqb (p % c .size) ((n % c .size + a) % c .size))
     of (negsuc k) = lit< tt
 
 pub only-at : (p : ℕ) → only p p ≡ 1

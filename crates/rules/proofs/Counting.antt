@@ -6,31 +6,24 @@
 --   howMany-below    the count is no more than b
 --   howMany-more     one number more
 use mathlib.Core.Path.{_≡_, sym, ap, _∙_}
-use mathlib.Core.Bool.{Bool, true, false, cond}
+use mathlib.Core.Bool.{Bool, true, false}
 use Prim.Native.Nat.{ℕ, _+_, _≤_, _<_}
 use native.Mathlib.Omega.{arith}
 use Rattle.rules.specs.Verdicts.{howMany}
+use Rattle.rules.proofs.Tests.{number, number-below}
 use Rattle.rules.proofs.Sums.{total-same, total-none, total-below, total-part, total-more}
 
--- what a number adds to the count, by its test
-abbrev mark : Bool → ℕ
-mark v = cond v 1 0
-
-mark-below : (v : Bool) → mark v < 2
-mark-below true = omega arith
-mark-below false = omega arith
-
 pub howMany-same : (b : ℕ) (f g : ℕ → Bool) → ((n : ℕ) → n < b → f n ≡ g n) → howMany b f ≡ howMany b g
-howMany-same b f g h = total-same b _ _ (λ n l. ap mark (h n l))
+howMany-same b f g h = total-same b _ _ (λ n l. ap number (h n l))
 
 pub howMany-none : (b : ℕ) (f : ℕ → Bool) → ((n : ℕ) → n < b → f n ≡ false) → howMany b f ≡ 0
-howMany-none b f h = total-none b _ (λ n l. ap mark (h n l))
+howMany-none b f h = total-none b _ (λ n l. ap number (h n l))
 
 pub howMany-some : (b : ℕ) (f : ℕ → Bool) (n : ℕ) → n < b → f n ≡ true → 0 < howMany b f
-howMany-some b f n l e = omega (arith, total-part b (λ n. mark (f n)) n l, ap mark e)
+howMany-some b f n l e = omega (arith, total-part b (λ n. number (f n)) n l, ap number e)
 
 pub howMany-below : (b : ℕ) (f : ℕ → Bool) → howMany b f ≤ b
-howMany-below b f = total-below b _ (λ n. mark-below (f n))
+howMany-below b f = total-below b _ (λ n. number-below (f n))
 
-pub howMany-more : (b m : ℕ) (f : ℕ → Bool) (v : Bool) → m ≡ howMany b f → f b ≡ v → m + mark v ≡ howMany (b + 1) f
-howMany-more b m f v e h = ap (λ (v : Bool). m + mark v) (sym h) ∙ total-more (λ n. mark (f n)) b m e
+pub howMany-more : (b m : ℕ) (f : ℕ → Bool) (v : Bool) → m ≡ howMany b f → f b ≡ v → m + number v ≡ howMany (b + 1) f
+howMany-more b m f v e h = ap (λ (v : Bool). m + number v) (sym h) ∙ total-more (λ n. number (f n)) b m e

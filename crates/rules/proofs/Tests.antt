@@ -1,4 +1,4 @@
--- Laws of computed tests: a test of two parts, of every element of a list, of every number below a bound.
+-- Laws of computed tests: a test of two parts, of every element of a list, of every number below a bound, and a test as a number.
 --
 --   both a b        a and b
 --   all f xs        f of every element of xs
@@ -7,13 +7,18 @@
 --   all-at, all-in, every-at   what passes for all, passes for each
 --   every-of        what passes for each number below n, passes for every one
 --   some-not        where not every number below n passes, one of them fails
-use mathlib.Core.Bool.{Bool, true, false, not}
+--   number b        the test b as a number: 1 where it passes, 0 where it fails
+--   number-below    it is below 2
+--   number-told     and tells the test
+--   number-bit      a number below 2 is told by whether it is 1
+use mathlib.Core.Path.{_≡_, refl}
+use mathlib.Core.Bool.{Bool, true, false, not, cond}
 use mathlib.Core.Logic.{_⊎_, inl, inr, ⊎-elim}
 use mathlib.Core.List.{List, [], _∷_}
 use Prim.Native.Nat.{ℕ, zero, suc, _<_}
 use native.Mathlib.Nat.{not-suc-le-zero, le-of-suc-le-suc, eq-or-lt-of-le}
 use native.Mathlib.Omega.{arith}
-use lib.Dec.{T}
+use lib.Dec.{T, eqb, lit<}
 use lib.ListN.{length, getD}
 
 abbrev pub both : Bool → Bool → Bool
@@ -68,3 +73,19 @@ pub some-not : (n : ℕ) (f : ℕ → Bool) → T (not (every n f)) → (k : ℕ
 some-not zero f t = absurd t
 some-not (suc n) f t =
     ⊎-elim (λ a. (n, omega arith, a)) (λ b. let k = some-not n f b in (k .0, omega (arith, k .1), k .2)) (both-not (f n) (every n f) t)
+
+abbrev pub number : Bool → ℕ
+number b = cond b 1 0
+
+pub number-below : (b : Bool) → number b < 2
+number-below true = lit< tt
+number-below false = lit< tt
+
+pub number-told : (b : Bool) → eqb (number b) 1 ≡ b
+number-told true = refl
+number-told false = refl
+
+pub number-bit : (a : ℕ) → a < 2 → number (eqb a 1) ≡ a
+number-bit zero h = refl
+number-bit (suc zero) h = refl
+number-bit (suc (suc a)) h = absurd (omega arith)
