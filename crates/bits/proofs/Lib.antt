@@ -1,1 +1,2 @@
 pub mod AddsLaws
+pub mod OnesLaws

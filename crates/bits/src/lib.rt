@@ -1,11 +1,13 @@
-// Bits in bytes: read, added, moved in runs, cleared, copied and searched.
+// Bits in bytes: read, added, moved in runs, cleared, copied, searched and counted.
 // Bit n is in byte n / 8, with weight 2 to the power n mod 8. A slice may have more bits than a usize can count.
 // Its functions serve the crates above, which show what they require; no user calls them.
 ghost use mathlib.Core.Path.{_≡_};
 ghost use mathlib.Core.List.{_++_};
 ghost use Prim.Native.Nat.{_+_, _*_, _/_, _%_, _^_, _≤_, _<_};
+ghost use lib.Count.{ones};
 ghost use lib.ListN.{length, getD, drop, replicate};
 ghost use Rattle.rules.specs.Bits.{bit, need, placed};
+ghost use Rattle.rules.specs.Matrix.{total};
 ghost use Rattle.bits.specs.Adds.{Adds, FirstSet};
 
 // The bytes that a run of bits takes.
@@ -101,4 +103,23 @@ pub fn first_set(s: &[u8], from: usize, to: usize) -> usize
         }
     }
     to
+}
+
+// How many bits of a byte are 1.
+fn ones_in(byte: u8) -> usize
+    ensures { λ r. ⌜ r ≡ ones byte ⌝ }
+{
+    u8::count_ones(byte) as usize
+}
+
+// How many bits of all of `s` are 1.
+pub fn count_ones(s: &[u8]) -> usize
+    requires { ⌜ 8 * length (now s) < 2 ^ 64 ⌝ }
+    ensures { λ r. ⌜ r ≡ total (8 * length (now (s .entry))) (bit (now (s .entry))) ⌝ }
+{
+    let mut count: usize = 0;
+    for i in 0..s.len() {
+        count += ones_in(s[i]);
+    }
+    count
 }

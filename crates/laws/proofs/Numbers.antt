@@ -9,16 +9,21 @@
 --   digit-low       a number's n lowest digits are kept by mod 2 to the power n
 --   digit-joined    a number of b bits, and m bits that another has at the places from b on, joined by an exclusive or
 --   digit-across    the n digits from t on of two numbers of n digits, one after the other; the second moves by 1, then by n - 1 - t
+--   ones-digits     the ones of a number of n bits are its n digits added up
 use mathlib.Core.Path.{_≡_, refl, sym, ap, _∙_}
-use Prim.Native.Nat.{ℕ, _+_, _-_, _*_, _/_, _%_, _^_, _≤_, _<_}
+use Prim.Native.Nat.{ℕ, zero, suc, _+_, _-_, _*_, _/_, _%_, _^_, _≤_, _<_}
 use native.Mathlib.Decide.{decLt}
 use native.Mathlib.Nat.{mod-lt, div-one, div-eq-of-lt, mul-assoc}
+use native.Mathlib.Numerals.{add-one}
 use native.Mathlib.Omega.{arith}
 use lib.Bits.{bitXor}
+use lib.Count.{ones, ones-step, ones-le}
 use lib.Dec.{lit<}
-use lib.Pow.{pow-add, pow-mono, shr-shr, shl-shr, field, mod-mod-pow}
+use lib.Pow.{pow-add, pow-mono, shr-lt, shr-shr, shl-shr, field, mod-mod-pow}
 use Rattle.rules.specs.Bits.{zeros, run, placed}
+use Rattle.rules.specs.Matrix.{total}
 use Rattle.rules.specs.Words.{digit}
+use Rattle.rules.proofs.Sums.{total-same, total-from}
 use Rattle.laws.proofs.Bits.{bit-xor}
 use Rattle.laws.proofs.Runs.{run-low, run-high, run-each, run-same, run-below, run-run, run-join, placed-below, placed-in}
 
@@ -123,3 +128,16 @@ module _ (n low high t : ℕ) (small : low < 2 ^ n) (less : t < n) where
   unfolding both
   digit-across k h =
       digit-joined _ _ (n - t) t both bits k (first k) (second k h) ∙ run-low (n - t + t) both zeros k (omega arith)
+
+pub ones-digits : (n x : ℕ) → x < 2 ^ n → ones x ≡ total n (digit x)
+unfolding total
+ones-digits zero x h = omega (arith, ones-le 0 x h)
+ones-digits (suc n) x h =
+    let one : suc n ≡ 1 + n = omega arith in
+    let half : x / 2 < 2 ^ n = shr-lt n 1 (rw add-one h) in
+    let lowest : digit x 0 ≡ x % 2 = rw div-one in
+    let above : (k : ℕ) → digit (x / 2) k ≡ digit x (1 + k) =
+    λ k. let e : k + 1 ≡ 1 + k = omega arith in digit-right x 1 k ∙ ap (digit x) e in
+    ones-step x
+    ∙ ap (λ (v : ℕ). x % 2 + v) (ones-digits n (x / 2) half ∙ total-same n (digit (x / 2)) (λ k. digit x (1 + k)) (λ k l. above k))
+    ∙ sym (ap (λ (m : ℕ). total m (digit x)) one ∙ total-from 1 n (digit x) ∙ omega (arith, lowest))

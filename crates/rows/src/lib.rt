@@ -1,10 +1,10 @@
-// The scan of a full word's check rows: the lowest that fails, and how many do.
+// The scan of a full word's check rows: the lowest that fails.
 ghost use mathlib.Core.Path.{_≡_};
 ghost use Prim.Native.Nat.{_/_, _<_};
 ghost use lib.ListN.{length};
 ghost use Rattle.rules.specs.Bits.{bit};
 ghost use Rattle.rules.specs.Matrix.{entry};
-ghost use Rattle.rules.specs.Table.{fibre};
+ghost use Rattle.rules.specs.Table.{fibre, lines};
 ghost use Rattle.rules.specs.Terms.{term};
 ghost use Rattle.rows.specs.Scan.{Scanned};
 
@@ -20,46 +20,38 @@ fn term_of(word: &[u8], row: usize, j: usize, a: i16) -> u8
     bits::bit_at(word, 256 * j + (row % 256 + turn) % 256)
 }
 
-// What the scan finds: the lowest failing row, or 3,072 where every check holds, and how many rows fail.
-pub struct Failing {
-    pub lowest: usize,
-    pub count: usize,
-}
-
-// Scans every row: once one fails, the scan goes on. For crates above, which show that the word is whole.
-pub fn scan(word: &[u8]) -> Failing
-    requires { ⌜ length (now word) ≡ 2208 ⌝ }
-    ensures { λ r. ⌜ Scanned (bit (now (word .entry))) 3072 (r .lowest) (r .count) ⌝ }
+// Scans the rows, and leaves both loops at the first failed check with its row. The table is lent by the caller, so that
+// the checker walks its copy in a function that has no loop.
+fn scan(word: &[u8], table: [[i16; 12]; 69]) -> usize
+    requires { ⌜ (length (now word) ≡ 2208) × (table ≡ lines) ⌝ }
+    ensures { λ r. ⌜ Scanned (bit (now (word .entry))) r ⌝ }
 {
-    let table = rules::TABLE;
     let mut row: usize = 0;
-    let mut found = Failing {
-        lowest: 3072,
-        count: 0,
-    };
     'rows: loop {
         if row == 3072 {
-            break 'rows found;
+            break 'rows row;
         }
         let i = row / 256;
         let mut ones: usize = 0;
-        for j in 0..69 {
+        let mut j: usize = 0;
+        loop {
+            if 69 <= j {
+                if ones % 2 == 1 {
+                    break 'rows row;
+                }
+                break;
+            }
             ones += term_of(word, row, j, table[j][i]) as usize;
-        }
-        if ones % 2 == 1 {
-            found = if found.lowest < 3072 {
-                let more = found.count + 1;
-                Failing {
-                    lowest: found.lowest,
-                    count: more,
-                }
-            } else {
-                Failing {
-                    lowest: row,
-                    count: 1,
-                }
-            };
+            j += 1;
         }
         row += 1;
     }
+}
+
+// The lowest failing row of a word, or 3,072 where every check holds. For crates above, which show that the word is whole.
+pub fn lowest_failing(word: &[u8]) -> usize
+    requires { ⌜ length (now word) ≡ 2208 ⌝ }
+    ensures { λ r. ⌜ Scanned (bit (now (word .entry))) r ⌝ }
+{
+    scan(word, rules::TABLE)
 }

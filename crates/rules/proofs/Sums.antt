@@ -7,6 +7,7 @@
 --   total-add      the sum of two sums, term by term
 --   total-mod      a sum mod 2 needs its terms mod 2 only
 --   total-one      where one term alone is not 0, the sum is that term
+--   total-from     a sum of m + n terms: the first m, and the n after them
 --   total-blocks   a sum of z * m terms is a sum of m sums of z terms
 --   total-more     one term more
 use mathlib.Core.Path.{_≡_, refl, ap, ap₂, _∙_}
@@ -58,7 +59,7 @@ total-one (suc n) f k l h = elim (ℕ-discrete n k) [
   | no d ↦ omega (arith, total-one n f k (omega arith) (λ p q. h p (omega arith)), h n (omega arith) d)
 ]
 
-total-from : (m n : ℕ) (f : ℕ → ℕ) → total (m + n) f ≡ total m f + total n (λ p. f (m + p))
+pub total-from : (m n : ℕ) (f : ℕ → ℕ) → total (m + n) f ≡ total m f + total n (λ p. f (m + p))
 unfolding total
 total-from m zero f = rw (add-zero m) (omega arith)
 total-from m (suc n) f = rw (add-suc m n) (omega (arith, total-from m n f))

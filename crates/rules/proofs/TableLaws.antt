@@ -19,7 +19,7 @@ use mir.Syntax.{w16}
 use mir.Val.{SFits, toZ, ofZ}
 use Rattle.rules.specs.Matrix.{entry}
 use Rattle.rules.specs.Table.{lines, fibre}
-use Rattle.rules.proofs.Tests.{both, all, all-at, all-in}
+use Rattle.rules.proofs.Tests.{both, both-left, both-right, all, all-at, all-in}
 
 abbrev pub inRange : ℤ → Bool
 inRange (pos a) = ltb a 256
@@ -46,9 +46,18 @@ pub table-facts : T (facts lines)
 unfolding lines
 table-facts = tt
 
+-- the test's parts, without computing it again
 each : T (all (all inRange) lines)
-unfolding lines
-each = tt
+each = both-left (all (all inRange) lines) _ table-facts
+
+twelves : T (all (λ l. eqb (length l) 12) lines)
+twelves = both-left (all (λ l. eqb (length l) 12) lines) _ (both-right (all (all inRange) lines) _ table-facts)
+
+count : length lines ≡ 69
+count =
+    eqb→eq (length lines) 69
+    (both-left (eqb (length lines) 69) _
+    (both-right (all (λ l. eqb (length l) 12) lines) _ (both-right (all (all inRange) lines) _ table-facts)))
 
 pub entry-range : (i j : ℕ) → T (inRange (entry fibre i j))
 unfolding entry
@@ -62,8 +71,7 @@ pub entry-fits : (i j : ℕ) → SFits w16 (entry fibre i j)
 entry-fits i j = record { sfits = lt-trans (small (entry fibre i j) (entry-range i j)) (lit< tt) }
 
 twelve : (j : ℕ) → j < 69 → length (getD lines j []) ≡ 12
-unfolding lines
-twelve j h = eqb→eq _ 12 (all-in (λ l. eqb (length l) 12) [] lines tt j h)
+twelve j h = eqb→eq _ 12 (all-in (λ l. eqb (length l) 12) [] lines twelves j (rw count h))
 
 -- in a list's range its default does not matter
 getD-any : {A : Type 0} (xs : List A) (i : ℕ) (a b : A) → i < length xs → getD xs i a ≡ getD xs i b

@@ -10,7 +10,8 @@ use rules::Cause;
 use rules::Judgement;
 use rules::Verdict;
 
-// The verdict on a full word: shortened places come first, then the checks.
+// The verdict on a full word: shortened places come first, then the checks. The running checks of all 69 blocks are the
+// checks themselves: where none is 1 the word is accepted with no scan, and else their ones are the failing rows.
 fn judge(count: usize, word: &[u8]) -> Verdict
     requires { ⌜ (count ≤ 14392) × (length (now word) ≡ 2208) ⌝ }
     ensures { λ r. ⌜ WordVerdict count (bit (now (word .entry))) r ⌝ }
@@ -19,14 +20,17 @@ fn judge(count: usize, word: &[u8]) -> Verdict
     if place < 14592 {
         return Verdict::Rejected(Cause::Shortened(place));
     }
-    let failing = rows::scan(word);
-    if failing.lowest < 3072 {
-        return Verdict::Rejected(Cause::Check {
-            row: failing.lowest,
-            count: failing.count,
-        });
+    let mut checks = [0u8; 384];
+    running::add_blocks(&mut checks, word, 0, 69);
+    let failing = bits::count_ones(&checks);
+    if failing == 0 {
+        return Verdict::Accepted;
     }
-    Verdict::Accepted
+    let row = rows::lowest_failing(word);
+    Verdict::Rejected(Cause::Check {
+        row: row,
+        count: failing,
+    })
 }
 
 // Checks a full word with so many payload bits.

@@ -8,7 +8,7 @@ use Rattle.rules.specs.Refusals.{tells, completeOrder}
 use Rattle.laws.proofs.Bits.{mid-rest}
 use Rattle.laws.proofs.Passed.{complete-passed}
 use Rattle.parity.proofs.Single.{payload-found}
-use Rattle.word.proofs.Payload.{payload-blocks}
+use Rattle.word.proofs.Blocks.{first-blocks}
 use Rattle.word.proofs.complete.Statement.{statement}
 use Rattle.word.proofs.complete.Tie as tie
 
@@ -74,7 +74,7 @@ returns-2 c =
           (c .before .before .before .before .before .before .before .before .before .before .complete .ensures);
       word = (
         p .last .1 .0,
-        payload-found (bit w) _ (s .last .0) (p .last .1 .0) (s .ensures) (λ n l. payload-blocks w n) (p .ensures),
+        payload-found (bit w) _ (s .last .0) (p .last .1 .0) (s .ensures) (λ n l. first-blocks w 57 n) (p .ensures),
         mid-rest w (p .last .1 .0) 1824,
       );
     }
