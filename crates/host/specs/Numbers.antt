@@ -4,15 +4,18 @@
 --                       of failing rows, and 0 for the other causes
 --   verdictNumber v     0 for accepted
 --   judgementNumber j   the refusal's number, or the verdict's
---   JudgementFits j     its place and its count are below 2^16, as those of every word are
+--   JudgementFits j     its place and its count are below 2^16, as those of every word are, and a refusal is 1 to 65,535
+--   readBack r          the answer of a check that the number r tells, by the parts that the header names
 --   HostEncoded ..      what birdovesta_encode promises
 --   HostWord ..         what birdovesta_check_word promises
 --   HostLine ..         what birdovesta_check_line promises
 --
 -- Believe this file beside the paper; nothing here is proved.
 use mathlib.Core.Path.{_≡_}
+use mathlib.Core.Bool.{cond}
 use mathlib.Core.List.{List}
-use Prim.Native.Nat.{ℕ, _+_, _*_, _^_, _<_}
+use Prim.Native.Nat.{ℕ, _+_, _*_, _/_, _%_, _^_, _<_}
+use lib.Dec.{eqb, ltb}
 use Rattle.rules.specs.Promises.{number, Encoded, WordChecked, LineChecked}
 use Rattle.rules.specs.declared.Answer.{Answer}
 use Rattle.rules.specs.declared.Cause.{Cause}
@@ -49,7 +52,17 @@ VerdictFits (Rejected c) = CauseFits c
 
 abbrev pub JudgementFits : Judgement → Type 0
 JudgementFits (Judged v) = VerdictFits v
-JudgementFits (Refused n) = Unit
+JudgementFits (Refused n) = (0 < n) × (n < 2 ^ 16)
+
+-- the cause numbered c, with a count m and a place n
+abbrev pub readCause : ℕ → ℕ → ℕ → Cause
+readCause c m n =
+    cond (eqb c 1) (Shortened n) (cond (eqb c 2) (Check n m) (cond (eqb c 3) (Parity n) (Delimiter n)))
+
+abbrev pub readBack : ℕ → Judgement
+readBack r =
+    cond (eqb r 0) (Judged Accepted)
+    (cond (ltb r (2 ^ 16)) (Refused r) (Judged (Rejected (readCause (r / 2 ^ 32) (r / 2 ^ 16 % 2 ^ 16) (r % 2 ^ 16)))))
 
 pub record HostEncoded (K : ℕ) (u : List ℕ) (d : ℕ) (o : List ℕ) (r : ℕ) (o′ : List ℕ) : Type 0 where
   pub answer : Answer

@@ -6,22 +6,22 @@
 --   told-next         one that was not told leaves the rest of the order
 --   told-before       the first of two numbers told, or else the later one
 --   told-left         where none is told, the first refusal does not apply, and none of the rest is told
+--   rest-left         the same, for a whole order
 --   refusal-of o k    when the refusal numbered k of the order o applies
+--   numbers f o       every number of the order o passes the test f
+--   told-passes       so does the number that it tells, if 0 does
 --   not-refused       where an order tells none, no refusal of it applies, wherever it stands
---   after c o         the refusals of the order o after its start c
---   same-start        of two orders that start alike, where one tells none, nor does the other, if what follows its start does not
 --   good-count        a count that is not bad is 1 to 14,392
 --   alike             two numbers that do not differ are equal: so with refusals 2 and 10, where they do not apply
 --   outcome-same      two outcomes, answer and later contents, are equal, if their numbers are and each case leaves one content only
 use mathlib.Core.Path.{_≡_, refl, sym, ap, _∙_}
 use mathlib.Core.Bool.{Bool, true, false, cond}
 use mathlib.Core.Logic.{_⊎_, inl, inr, ⊎-elim}
-use mathlib.Core.List.{List, [], _∷_, _++_}
+use mathlib.Core.List.{List, [], _∷_}
 use Prim.Native.Nat.{ℕ, _≤_, _<_}
 use native.Mathlib.Decide.{ℕ-discrete, decLt}
 use native.Mathlib.Omega.{arith}
 use lib.Dec.{T, eqb, ltb, lit<}
-use lib.ListN.{length, drop}
 use Rattle.rules.specs.Numbers.{payloadMost}
 use Rattle.rules.specs.Refusals.{Refusal, tells, badCount}
 use Rattle.rules.specs.Promises.{number, by}
@@ -60,13 +60,22 @@ abbrev pub refusal-of : List Refusal → ℕ → Type 0
 refusal-of [] k = ⊥
 refusal-of (t ∷ o) k = cond (eqb (t .number) k) (t .applies) (refusal-of o k)
 
+abbrev pub numbers : (ℕ → Bool) → List Refusal → Bool
+numbers f [] = true
+numbers f (t ∷ o) = both (f (t .number)) (numbers f o)
+
+pub told-passes : (f : ℕ → Bool) → T (f 0) → (o : List Refusal) → T (numbers f o) → (r : ℕ) → tells o r → T (f r)
+told-passes f z [] h r x = rw x z
+told-passes f z (t ∷ o) h r x =
+    ⊎-elim (λ a. rw (a .1) (both-left (f (t .number)) (numbers f o) h))
+    (λ b. told-passes f z o (both-right (f (t .number)) (numbers f o) h) r (b .1)) x
+
 -- every number of an order is above 0
 abbrev pub numbered : List Refusal → Bool
-numbered [] = true
-numbered (t ∷ o) = both (ltb 0 (t .number)) (numbered o)
+numbered o = numbers (ltb 0) o
 
--- told-left, for such an order; what is left is such an order too
-rest-left : (t : Refusal) (o p : List Refusal) → T (numbered (t ∷ o)) → {r : ℕ} → r ≡ 0 → tells (t ∷ p) r
+-- told-left, for such an order; what is left of its test passes too
+pub rest-left : (t : Refusal) (o p : List Refusal) → T (numbered (t ∷ o)) → {r : ℕ} → r ≡ 0 → tells (t ∷ p) r
     → (t .applies → ⊥) × tells p r × T (numbered o)
 rest-left t o p h e x =
     let l = told-left (lit< (both-left (ltb 0 (t .number)) (numbered o) h)) e x in
@@ -82,18 +91,6 @@ not-refused [] h e x k = λ y. y
 not-refused (t ∷ o) h e x k =
     let l = rest-left t o o h e x in
     neither (eqb (t .number) k) (t .applies) (refusal-of o k) (l .0) (not-refused o (l .2) e (l .1) k)
-
-abbrev pub after : List Refusal → List Refusal → List Refusal
-after c o = drop (length c) o
-
-pub same-start : (c o p : List Refusal) → T (numbered c) → tells (c ++ after c o) 0 → tells (after c p) 0 → tells (c ++ after c p) 0
-same-start c o p h x y = over c (after c o) (after c p) h x y
-  where
-    over : (c o p : List Refusal) → T (numbered c) → tells (c ++ o) 0 → tells p 0 → tells (c ++ p) 0
-    over [] o p h x y = y
-    over (t ∷ c) o p h x y =
-        let l = rest-left t c (c ++ o) h refl x in
-        inr (l .0, over c o p (l .2) (l .1) y)
 
 pub good-count : (K : ℕ) → (badCount K .applies → ⊥) → (0 < K) × (K ≤ payloadMost)
 good-count K h = elim (decLt payloadMost K) [

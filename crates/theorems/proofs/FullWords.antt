@@ -1,31 +1,86 @@
--- Full words: what complete leaves, the check with the same payload count accepts.
+-- Full words: which the check accepts, what it names first, and that it accepts what complete leaves.
 --
---   completed-accepted    so the verdict is accepted
---   complete-then-check   and no check can answer otherwise
-use mathlib.Core.Path.{_≡_, refl, sym, ap, _∙_}
-use mathlib.Core.List.{List}
+--   word-accepted         a full word is accepted exactly when its shortened places are 0 and every check holds
+--   shortened-named       a shortened place that is named is the lowest that is 1
+--   check-named           a row that is named is the first that fails; no shortened place is 1
+--   complete-then-check   what complete leaves, the check with the same payload count accepts
+use mathlib.Core.Path.{_≡_, refl, sym, ap, subst, _∙_}
+use mathlib.Core.List.{List, [], _∷_}
 use Prim.Native.Nat.{ℕ, _+_, _-_, _*_, _≤_, _<_}
 use native.Mathlib.Decide.{decLt}
 use native.Mathlib.Omega.{arith}
-use mathlib.Core.Logic.{inr}
 use lib.ListN.{length, take, length-append}
 use lib.Seq.{length-take-le}
 use Rattle.rules.specs.Bits.{bit}
+use Rattle.rules.specs.Matrix.{check}
 use Rattle.rules.specs.Table.{fibre}
 use Rattle.rules.specs.Words.{fullWord}
-use Rattle.rules.specs.Verdicts.{WordVerdict}
-use Rattle.rules.specs.Refusals.{tells, someShortened, ofCount, completeOrder, wordOrder}
+use Rattle.rules.specs.Verdicts.{Nowhere, ShortenedSet}
+use Rattle.rules.specs.Refusals.{wrongBytes, someShortened, completeOrder, wordOrder}
 use Rattle.rules.specs.Promises.{Completed, WordChecked}
 use Rattle.rules.specs.declared.Answer.the-variants.{Done}
-use Rattle.rules.specs.declared.Verdict.the-variants.{Accepted}
+use Rattle.rules.specs.declared.Cause.the-variants.{Shortened, Check}
+use Rattle.rules.specs.declared.Verdict.the-variants.{Accepted, Rejected}
 use Rattle.rules.specs.declared.Judgement.{Judgement}
 use Rattle.rules.specs.declared.Judgement.the-variants.{Judged}
-use Rattle.rules.proofs.Checks.{check-same}
-use Rattle.laws.proofs.Bits.{bit-take, bit-front, bit-back}
+use Rattle.rules.proofs.Checks.{check-below, check-same}
+use Rattle.laws.proofs.Bits.{bit<, bit-take, bit-front, bit-back}
 use Rattle.laws.proofs.Runs.{run-low, run-high}
-use Rattle.laws.proofs.Told.{after, same-start}
+use Rattle.laws.proofs.Told.{not-refused, alike}
 use Rattle.laws.proofs.Passed.{complete-passed}
+use Rattle.theorems.specs.Exactly.{Exactly}
+use Rattle.theorems.specs.Accepted.{GoodWord}
 use Rattle.theorems.proofs.Same.{word-check-same}
+use Rattle.theorems.proofs.Refusing.{free-told, whole-free, free-whole}
+
+module _ (K : ℕ) (w : List ℕ) where
+  -- a bit that is not 1, and a check that is not, is 0
+  not-one : (b : ℕ) → b < 2 → (b ≡ 1 → ⊥) → b ≡ 0
+  not-one b h d = omega arith
+
+  unset : Nowhere (ShortenedSet K (bit w)) → (n : ℕ) → K ≤ n → n < 14592 → bit w n ≡ 0
+  unset none n a b = not-one (bit w n) (bit< w n) (λ e. none n (a, b, e))
+
+  accepted-good : WordChecked K w (Judged Accepted) → GoodWord K w
+  accepted-good x =
+      let not = not-refused (wordOrder K w) tt refl (x .told) in
+      record {
+        count = free-whole K (not 1) (not 10);
+        bytes = alike (length w) 2208 (not 2);
+        shortened = unset (x .verdict .0);
+        all-hold = λ n h. not-one (check fibre n (bit w)) (check-below fibre n (bit w)) (λ e. x .verdict .1 n (h, e));
+      }
+
+  pub good-accepted : GoodWord K w → WordChecked K w (Judged Accepted)
+  good-accepted g = record {
+    told = free-told (wordOrder K w) (whole-free K (wrongBytes w 2208 ∷ []) (g .count) (λ d. d (g .bytes), tt));
+    verdict = (
+      λ n s. omega (arith, g .shortened n (s .0) (s .1), s .2),
+      λ n f. omega (arith, g .all-hold n (f .0), f .1),
+    );
+  }
+
+  pub word-accepted : (j : Judgement) → WordChecked K w j → Exactly (j ≡ Judged Accepted) (GoodWord K w)
+  word-accepted j x = (
+    λ e. accepted-good (subst (WordChecked K w) e x),
+    λ g. word-check-same K w j (Judged Accepted) x (good-accepted g),
+  )
+
+  pub shortened-named : (n : ℕ) → WordChecked K w (Judged (Rejected (Shortened n)))
+      → (K ≤ n) × (n < 14592) × (bit w n ≡ 1) × ((k : ℕ) → K ≤ k → k < n → bit w k ≡ 0)
+  shortened-named n x =
+      let v = x .verdict in
+      let below : (k : ℕ) → K ≤ k → k < n → bit w k ≡ 0 =
+      λ k a l. not-one (bit w k) (bit< w k) (λ e. v .1 k l (a, omega (arith, l, v .0 .1), e)) in
+      (v .0 .0, v .0 .1, v .0 .2, below)
+
+  pub check-named : (n m : ℕ) → WordChecked K w (Judged (Rejected (Check n m)))
+      → ((k : ℕ) → K ≤ k → k < 14592 → bit w k ≡ 0) × (n < 3072) × (check fibre n (bit w) ≡ 1) × ((k : ℕ) → k < n → check fibre k (bit w) ≡ 0)
+  check-named n m x =
+      let v = x .verdict in
+      let below : (k : ℕ) → k < n → check fibre k (bit w) ≡ 0 =
+      λ k l. not-one (check fibre k (bit w)) (check-below fibre k (bit w)) (λ e. v .1 .1 k l (omega (arith, l, v .1 .0 .0), e)) in
+      (unset (v .0), v .1 .0 .0, v .1 .0 .1, below)
 
 module _ (K : ℕ) (w w′ : List ℕ) (c : Completed K w Done w′) where
   abbrev p : List ℕ
@@ -51,19 +106,18 @@ module _ (K : ℕ) (w w′ : List ℕ) (c : Completed K w Done w′) where
         ∙ sym (run-high 14592 (bit w) (bit p) n (omega arith))
   ]
 
-  pub completed-accepted : WordVerdict K (bit w′) Accepted
-  completed-accepted = (
-    λ n s. passed .3 (n, (s .0, s .1, sym (payload n (s .1)) ∙ s .2)),
-    λ n f. omega (arith, check-same fibre n (bit w′) (fullWord (bit w) p) (λ m h. whole m), c .word .1 .all-hold n (f .0), f .1),
-  )
-
   whole-length : length w′ ≡ 2208
   whole-length = ap length (c .word .2) ∙ length-append (take 1824 w) p ∙ omega (arith, front-length, c .word .1 .bytes)
 
+  completed-good : GoodWord K w′
+  completed-good =
+      let not = not-refused (completeOrder K w) tt refl (c .told) in
+      record {
+        count = free-whole K (not 1) (not 10);
+        bytes = whole-length;
+        shortened = λ n a b. payload n b ∙ unset K w (λ m s. passed .3 (m, s)) n a b;
+        all-hold = λ n h. check-same fibre n (bit w′) (fullWord (bit w) p) (λ m l. whole m) ∙ c .word .1 .all-hold n h;
+      }
+
   pub complete-then-check : (j : Judgement) → WordChecked K w′ j → j ≡ Judged Accepted
-  complete-then-check j h = word-check-same K w′ j (Judged Accepted) h record { told = not-told; verdict = completed-accepted }
-    where
-      not-told : tells (wordOrder K w′) 0
-      not-told =
-          let rest : tells (after (ofCount K) (wordOrder K w′)) 0 = inr (λ d. d whole-length, refl) in
-          same-start (ofCount K) (completeOrder K w) (wordOrder K w′) tt (c .told) rest
+  complete-then-check j h = word-accepted K w′ j h .1 completed-good

@@ -1,4 +1,6 @@
 pub mod Same
+pub mod Refusing
 pub mod FullWords
-pub mod Streams
 pub mod Lines
+pub mod Streams
+pub mod Host

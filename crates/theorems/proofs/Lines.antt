@@ -1,24 +1,23 @@
--- Line words: encode and the line check agree.
+-- Line words: what encode writes, which the line check accepts, and that the two agree.
 --
---   accepted-completed, completed-accepted
---                          a line word is accepted exactly when some 512 punctured bits complete it and its delimiter is the one given
+--   line-accepted          a line word is accepted exactly when some 512 punctured bits complete it and its delimiter is the one given
+--   encode-exact           what encode writes is the line word of whatever parity makes every check hold
 --   encode-then-check      what encode writes, the line check accepts with the same payload count and delimiter
 --   accepted-is-encoded    a line word that is accepted is the one that encode writes for its payload
-use mathlib.Core.Path.{_≡_, refl, sym, _∙_}
-use mathlib.Core.Logic.{inr}
-use mathlib.Core.List.{List}
+use mathlib.Core.Path.{_≡_, refl, sym, subst, _∙_}
+use mathlib.Core.List.{List, [], _∷_}
 use Prim.Native.Nat.{ℕ, _+_, _-_, _*_, _≤_, _<_}
 use native.Mathlib.Decide.{decLt}
 use native.Mathlib.Omega.{arith}
 use lib.Dec.{lit<}
 use lib.ListN.{length, getD, take, drop, length-drop, List·getD-eq-default}
 use lib.Seq.{length-take-le, getD-take}
-use Rattle.rules.specs.Bits.{bit, Bytes, need, zeros, run, UnusedSet}
+use Rattle.rules.specs.Bits.{bit, Bytes, need, zeros, run, UnusedSet, Written}
 use Rattle.rules.specs.Matrix.{AllHold}
 use Rattle.rules.specs.Table.{fibre}
-use Rattle.rules.specs.Words.{padded, fullWord, Parity, tail, lineWord}
+use Rattle.rules.specs.Words.{padded, fullWord, Parity, tail, lineWord, lineBits}
 use Rattle.rules.specs.Verdicts.{LineVerdict}
-use Rattle.rules.specs.Refusals.{tells, ofCount, encodeOrder, lineOrder}
+use Rattle.rules.specs.Refusals.{Refusal, wrongBytes, unusedSet, badDelimiter, encodeOrder, lineOrder}
 use Rattle.rules.specs.Promises.{Encoded, LineChecked}
 use Rattle.rules.specs.declared.Answer.the-variants.{Done}
 use Rattle.rules.specs.declared.Verdict.the-variants.{Accepted}
@@ -27,12 +26,15 @@ use Rattle.rules.specs.declared.Judgement.the-variants.{Judged}
 use Rattle.rules.proofs.Checks.{check-same}
 use Rattle.laws.proofs.Bits.{bit<, bit-take, bit-drop, bit-past, bits-same, pack, length-pack, bit-pack}
 use Rattle.laws.proofs.Runs.{run-low, run-high, run-each, run-same, run-below}
-use Rattle.laws.proofs.Told.{after, same-start, alike}
+use Rattle.laws.proofs.Told.{not-refused, alike}
 use Rattle.laws.proofs.Passed.{encode-passed, line-passed}
 use Rattle.laws.proofs.Tails.{tail-low, tail-high}
 use Rattle.parity.proofs.Single.{parity-bits-one}
+use Rattle.theorems.specs.Exactly.{Exactly}
 use Rattle.theorems.specs.Punctured.{completed, Completes}
-use Rattle.theorems.proofs.Same.{line-check-same}
+use Rattle.theorems.specs.Accepted.{GoodLine}
+use Rattle.theorems.proofs.Same.{tail-bits, line-check-same}
+use Rattle.theorems.proofs.Refusing.{free-told, whole-free, free-whole}
 
 -- a parity of x is one of any payload with the same bits
 parity-as : {x y : ℕ → ℕ} {p q : List ℕ} → length q ≡ 384 → ((n : ℕ) → n < 17664 → fullWord x p n ≡ fullWord y q n) → Parity x p → Parity y q
@@ -42,7 +44,7 @@ parity-as {x} {y} {p} {q} l e h = record {
 }
 
 module _ (K : ℕ) (l : List ℕ) (d : ℕ) where
-  pub accepted-completed : LineVerdict K l d Accepted → (q : List ℕ) × Completes K l d q
+  accepted-completed : LineVerdict K l d Accepted → (q : List ℕ) × Completes K l d q
   accepted-completed v = (
     drop 320 (v .0),
     record {
@@ -61,7 +63,7 @@ module _ (K : ℕ) (l : List ℕ) (d : ℕ) where
       word : (n : ℕ) → run 14592 (padded K (bit l)) (run 2560 (λ n. bit l (K + n)) (bit (drop 320 (v .0)))) n ≡ fullWord (padded K (bit l)) (v .0) n
       word = run-same 14592 (padded K (bit l)) _ (padded K (bit l)) (bit (v .0)) (λ n h. refl) parity
 
-  pub completed-accepted : (q : List ℕ) → Completes K l d q → LineVerdict K l d Accepted
+  completed-accepted : (q : List ℕ) → Completes K l d q → LineVerdict K l d Accepted
   completed-accepted q c = (p, record { bytes = length-pack 384 f; all-hold = holds }, (λ n x. x .1 (same n (x .0)), λ n x. x .1 (c .delimiter n (x .0))))
     where
       f : ℕ → ℕ
@@ -86,6 +88,32 @@ module _ (K : ℕ) (l : List ℕ) (d : ℕ) where
 
       holds : AllHold fibre (fullWord (padded K (bit l)) p)
       holds n h = check-same fibre n (fullWord (padded K (bit l)) p) (completed K l q) word ∙ c .all-hold n h
+
+  accepted-good : LineChecked K l d (Judged Accepted) → GoodLine K l d
+  accepted-good x =
+      let not = not-refused (lineOrder K l d) tt refl (x .told) in
+      let few = not 4 in
+      record {
+        count = free-whole K (not 1) (not 10);
+        bytes = alike (length l) (need (K + 2570)) (not 2);
+        unused = not 3;
+        delimiter = omega arith;
+        completed = accepted-completed (x .verdict);
+      }
+
+  good-accepted : GoodLine K l d → LineChecked K l d (Judged Accepted)
+  good-accepted g =
+      let rest : List Refusal = wrongBytes l (need (K + 2570)) ∷ unusedSet l (K + 2570) ∷ badDelimiter d ∷ [] in
+      record {
+        told = free-told (lineOrder K l d) (whole-free K rest (g .count) (λ x. x (g .bytes), (g .unused, (λ x. omega (arith, g .delimiter), tt))));
+        verdict = completed-accepted (g .completed .0) (g .completed .1);
+      }
+
+  pub line-accepted : (j : Judgement) → LineChecked K l d j → Exactly (j ≡ Judged Accepted) (GoodLine K l d)
+  line-accepted j x = (
+    λ e. accepted-good (subst (LineChecked K l d) e x),
+    λ g. line-check-same K l d j (Judged Accepted) x (good-accepted g),
+  )
 
 -- what encode wrote to o, as the line check is given it: the bytes of the line word, and no more
 module _ (K : ℕ) (u : List ℕ) (d : ℕ) (o o′ : List ℕ) (e : Encoded K u d o Done o′) where
@@ -139,14 +167,30 @@ module _ (K : ℕ) (u : List ℕ) (d : ℕ) (o o′ : List ℕ) (e : Encoded K u
     | no h ↦ omega (arith, bit-past l (s .0) (omega arith), s .2)
   ]
 
-  not-told : tells (lineOrder K l d) 0
-  not-told =
-      let rest : tells (after (ofCount K) (lineOrder K l d)) 0 =
-      inr (λ b. b line-length, inr (unused, inr (λ b. omega (arith, passed .4), refl))) in
-      same-start (ofCount K) (encodeOrder K u d (length o)) (lineOrder K l d) tt (e .told) rest
+  good : GoodLine K l d
+  good =
+      let not = not-refused (encodeOrder K u d (length o)) tt refl (e .told) in
+      record {
+        count = free-whole K (not 1) (not 10);
+        bytes = line-length;
+        unused = unused;
+        delimiter = passed .4;
+        completed = accepted-completed K l d verdict;
+      }
 
   pub encode-then-check : (j : Judgement) → LineChecked K l d j → j ≡ Judged Accepted
-  encode-then-check j h = line-check-same K l d j (Judged Accepted) h record { told = not-told; verdict = verdict }
+  encode-then-check j h = line-accepted K l d j h .1 good
+
+  pub encode-exact : (q : List ℕ) → Parity (padded K (bit u)) q → Written (lineBits K) (lineWord K (bit u) q d) o o′
+  encode-exact q h =
+      let w = e .line .2 in
+      let same = tail-bits p q d (parity-bits-one (padded K (bit u)) p q (e .line .1) h) in
+      let word = run-same K (bit u) (tail p d) (bit u) (tail q d) (λ n l. refl) same in
+      record {
+        length-same = w .length-same;
+        bits = λ n l. w .bits n l ∙ run-same (lineBits K) (lineWord K (bit u) p d) zeros _ zeros (λ m k. word m) (λ m. refl) n;
+        after = w .after;
+      }
 
   -- a line word k with the same payload, that the line check accepts, is the one that encode wrote
   module _ (k : List ℕ) (bytes : Bytes k) (bytes′ : Bytes o′) (same : (n : ℕ) → n < K → bit k n ≡ bit u n) (c : LineChecked K k d (Judged Accepted)) where

@@ -1,2 +1,4 @@
-pub mod Attempts
+pub mod Exactly
 pub mod Punctured
+pub mod Accepted
+pub mod Attempts

@@ -10,7 +10,7 @@ check-requires c κs = search needs
 judgement-number-requires : tie.Need-judgement-number-requires
 judgement-number-requires c κs =
     let a = c .before .before .args in
-    line-fits (a .bits) (a .line .now) (a .delimiter) (c .check .result) (c .check .ensures .verdict)
+    line-fits (a .bits) (a .line .now) (a .delimiter) (c .check .result) (c .check .ensures)
 
 returns : tie.Need-returns
 returns c = search needs

@@ -1,6 +1,5 @@
 -- `host::birdovesta_check_word` meets its contract.
 use borrow.Author.Needs.{needs}
-use Rattle.rules.specs.Bits.{bit}
 use Rattle.host.proofs.Fits.{word-fits}
 use Rattle.host.proofs.birdovesta_check_word.Statement.{statement}
 use Rattle.host.proofs.birdovesta_check_word.Tie as tie
@@ -11,7 +10,7 @@ check-requires c κs = search needs
 judgement-number-requires : tie.Need-judgement-number-requires
 judgement-number-requires c κs =
     let a = c .before .before .args in
-    word-fits (a .bits) (bit (a .word .now)) (c .check .result) (c .check .ensures .verdict)
+    word-fits (a .bits) (a .word .now) (c .check .result) (c .check .ensures)
 
 returns : tie.Need-returns
 returns c =

@@ -1,0 +1,114 @@
+-- The C boundary: two outcomes that fit one promise are equal, 0 is told exactly when written or accepted, a refusal is 1 to
+-- 65,535, and a check's answer can be read back from its number.
+--
+--   host-encode-same, host-word-same, host-line-same    two outcomes of one call are equal
+--   host-encode-zero        0 exactly when written
+--   host-word-zero, host-line-zero          0 exactly when accepted, in the words of demand 2
+--   host-encode-refused     any other number is a refusal, 1 to 65,535, and every byte is as it was
+--   host-word-refused, host-line-refused    a number from 1 to 65,535 exactly when it is the refusal
+--   host-word-read, host-line-read          what is read back from the number is the check's answer
+--   answers-apart           no two answers of the checks share a number
+use mathlib.Core.Path.{_≡_, refl, sym, ap, subst, _∙_}
+use mathlib.Core.Logic.{⊎-elim}
+use mathlib.Core.List.{List}
+use Prim.Native.Nat.{ℕ, _^_, _<_}
+use native.Mathlib.Omega.{arith}
+use lib.ListN.{length}
+use borrow.Author.Tests.{ne-eqb, lt-ltb}
+use Rattle.rules.specs.Bits.{Bytes}
+use Rattle.rules.specs.Refusals.{tells, encodeOrder}
+use Rattle.rules.specs.Promises.{number, Encoded, WordChecked, LineChecked}
+use Rattle.rules.specs.declared.Answer.{Answer}
+use Rattle.rules.specs.declared.Answer.the-variants.{Done}
+use Rattle.rules.specs.declared.Verdict.the-variants.{Accepted}
+use Rattle.rules.specs.declared.Judgement.{Judgement}
+use Rattle.rules.specs.declared.Judgement.the-variants.{Judged, Refused}
+use Rattle.laws.proofs.Told.{told-single}
+use Rattle.host.specs.Numbers.{judgementNumber, JudgementFits, readBack, HostEncoded, HostWord, HostLine}
+use Rattle.host.proofs.Fits.{told-short, word-fits, line-fits}
+use Rattle.host.proofs.Reading.{read-back, apart}
+use Rattle.theorems.specs.Exactly.{Exactly, CheckAnswer}
+use Rattle.theorems.specs.Accepted.{GoodWord, GoodLine}
+use Rattle.theorems.proofs.Same.{encode-same, word-check-same, line-check-same}
+use Rattle.theorems.proofs.Refusing.{none-done, encode-kept}
+use Rattle.theorems.proofs.FullWords.{word-accepted}
+use Rattle.theorems.proofs.Lines.{line-accepted}
+
+module _ (K : ℕ) (u : List ℕ) (d : ℕ) (o : List ℕ) where
+  pub host-encode-same : (r s : ℕ) (o′ o″ : List ℕ) → Bytes o′ → Bytes o″ → HostEncoded K u d o r o′ → HostEncoded K u d o s o″
+      → (r ≡ s) × (o′ ≡ o″)
+  host-encode-same r s o′ o″ b b′ x y =
+      let e = encode-same K u d o (x .answer) (y .answer) o′ o″ b b′ (x .encoded) (y .encoded) in
+      (x .result ∙ ap number (e .0) ∙ sym (y .result), e .1)
+
+  pub host-encode-zero : (r : ℕ) (o′ : List ℕ) → HostEncoded K u d o r o′ → Exactly (r ≡ 0) (Encoded K u d o Done o′)
+  host-encode-zero r o′ x = (
+    λ e. subst (λ (a : Answer). Encoded K u d o a o′) (none-done (x .answer) _ _ (sym (x .result) ∙ e) (x .encoded .line)) (x .encoded),
+    λ w. x .result ∙ told-single (encodeOrder K u d (length o)) (number (x .answer)) 0 (x .encoded .told) (w .told),
+  )
+
+  pub host-encode-refused : (r : ℕ) (o′ : List ℕ) → HostEncoded K u d o r o′ → (r ≡ 0 → ⊥)
+      → tells (encodeOrder K u d (length o)) r × (0 < r) × (r < 2 ^ 16) × (o′ ≡ o)
+  host-encode-refused r o′ x n =
+      let t : tells (encodeOrder K u d (length o)) r = rw (x .result) (x .encoded .told) in
+      let not-done : x .answer ≡ Done → ⊥ = λ e. n (x .result ∙ ap number e) in
+      (t, omega arith, told-short (encodeOrder K u d (length o)) tt r t, encode-kept K u d o (x .answer) o′ not-done (x .encoded))
+
+-- r is the number of j, which a check may answer: P says which answers those are, G when they are accepted
+module _ (P : Judgement → Type 0) (r : ℕ) (j : Judgement) (p : P j) (fits : JudgementFits j) (told : r ≡ judgementNumber j) where
+  told-read : P (readBack r)
+  told-read = subst P (sym (ap readBack told ∙ read-back j fits)) p
+
+  told-zero : (G : Type 0) → ((i : Judgement) → P i → Exactly (i ≡ Judged Accepted) G) → Exactly (r ≡ 0) G
+  told-zero G accepted = (
+    λ e. accepted j p .0 (apart j (Judged Accepted) fits tt (sym told ∙ e)),
+    λ g. told ∙ ap judgementNumber (accepted j p .1 g),
+  )
+
+  told-refused : ((i : Judgement) → P i → JudgementFits i) → Exactly ((0 < r) × (r < 2 ^ 16)) (P (Refused r))
+  told-refused fit = (
+    λ h. subst P (rw (ne-eqb r 0 (λ z. omega (arith, h .0)), lt-ltb r (2 ^ 16) (h .1))) told-read,
+    λ q. fit (Refused r) q,
+  )
+
+module _ (K : ℕ) (w : List ℕ) where
+  pub host-word-same : (r s : ℕ) → HostWord K w r → HostWord K w s → r ≡ s
+  host-word-same r s x y =
+      x .result ∙ ap judgementNumber (word-check-same K w (x .judgement) (y .judgement) (x .checked) (y .checked)) ∙ sym (y .result)
+
+  module _ (r : ℕ) (x : HostWord K w r) where
+    word-told : JudgementFits (x .judgement)
+    word-told = word-fits K w (x .judgement) (x .checked)
+
+    pub host-word-read : WordChecked K w (readBack r)
+    host-word-read = told-read (WordChecked K w) r (x .judgement) (x .checked) word-told (x .result)
+
+    pub host-word-zero : Exactly (r ≡ 0) (GoodWord K w)
+    host-word-zero = told-zero (WordChecked K w) r (x .judgement) (x .checked) word-told (x .result) _ (word-accepted K w)
+
+    pub host-word-refused : Exactly ((0 < r) × (r < 2 ^ 16)) (WordChecked K w (Refused r))
+    host-word-refused = told-refused (WordChecked K w) r (x .judgement) (x .checked) word-told (x .result) (word-fits K w)
+
+module _ (K : ℕ) (l : List ℕ) (d : ℕ) where
+  pub host-line-same : (r s : ℕ) → HostLine K l d r → HostLine K l d s → r ≡ s
+  host-line-same r s x y =
+      x .result ∙ ap judgementNumber (line-check-same K l d (x .judgement) (y .judgement) (x .checked) (y .checked)) ∙ sym (y .result)
+
+  module _ (r : ℕ) (x : HostLine K l d r) where
+    line-told : JudgementFits (x .judgement)
+    line-told = line-fits K l d (x .judgement) (x .checked)
+
+    pub host-line-read : LineChecked K l d (readBack r)
+    host-line-read = told-read (LineChecked K l d) r (x .judgement) (x .checked) line-told (x .result)
+
+    pub host-line-zero : Exactly (r ≡ 0) (GoodLine K l d)
+    host-line-zero = told-zero (LineChecked K l d) r (x .judgement) (x .checked) line-told (x .result) _ (line-accepted K l d)
+
+    pub host-line-refused : Exactly ((0 < r) × (r < 2 ^ 16)) (LineChecked K l d (Refused r))
+    host-line-refused = told-refused (LineChecked K l d) r (x .judgement) (x .checked) line-told (x .result) (line-fits K l d)
+
+answer-fits : (j : Judgement) → CheckAnswer j → JudgementFits j
+answer-fits j a = ⊎-elim (λ x. word-fits (x .0) (x .1) j (x .2)) (λ x. line-fits (x .0) (x .1) (x .2) j (x .3)) a
+
+pub answers-apart : (i j : Judgement) → CheckAnswer i → CheckAnswer j → judgementNumber i ≡ judgementNumber j → i ≡ j
+answers-apart i j a b e = apart i j (answer-fits i a) (answer-fits j b) e

@@ -1,0 +1,30 @@
+-- Demand 2, and paper 01, 'Verdicts': which full words and which line words are accepted.
+--
+--   GoodWord K w      w is a full word with a payload of K bits: its shortened places are 0 and every check holds
+--   GoodLine K l d    l is a line word with a payload of K bits: some 512 punctured bits complete it, and its delimiter is d
+--
+-- Believe this file beside the paper. FullWords and Lines prove that these and no others are accepted.
+use mathlib.Core.Path.{_≡_}
+use mathlib.Core.List.{List}
+use Prim.Native.Nat.{ℕ, _≤_, _<_}
+use lib.ListN.{length}
+use Rattle.rules.specs.Numbers.{payloadPlaces, delimiterMost}
+use Rattle.rules.specs.Bits.{bit, need, UnusedSet}
+use Rattle.rules.specs.Matrix.{AllHold}
+use Rattle.rules.specs.Table.{fibre}
+use Rattle.rules.specs.Words.{lineBits}
+use Rattle.theorems.specs.Exactly.{WholeBlocks}
+use Rattle.theorems.specs.Punctured.{Completes}
+
+pub record GoodWord (K : ℕ) (w : List ℕ) : Type 0 where
+  pub count : WholeBlocks K
+  pub bytes : length w ≡ 2208
+  pub shortened : (n : ℕ) → K ≤ n → n < payloadPlaces → bit w n ≡ 0
+  pub all-hold : AllHold fibre (bit w)
+
+pub record GoodLine (K : ℕ) (l : List ℕ) (d : ℕ) : Type 0 where
+  pub count : WholeBlocks K
+  pub bytes : length l ≡ need (lineBits K)
+  pub unused : UnusedSet l (lineBits K) → ⊥
+  pub delimiter : d ≤ delimiterMost
+  pub completed : (q : List ℕ) × Completes K l d q
