@@ -8,7 +8,7 @@
 --   host-word-refused, host-line-refused    a number from 1 to 65,535 exactly when it is the refusal
 --   host-word-read, host-line-read          what is read back from the number is the check's answer
 --   answers-apart           no two answers of the checks share a number
-use mathlib.Core.Path.{_≡_, refl, sym, ap, subst, _∙_}
+use mathlib.Core.Path.{_≡_, sym, ap, subst, _∙_}
 use mathlib.Core.Logic.{⊎-elim}
 use mathlib.Core.List.{List}
 use Prim.Native.Nat.{ℕ, _^_, _<_}

@@ -1,5 +1,6 @@
 pub mod Same
 pub mod Refusing
+pub mod Asked
 pub mod FullWords
 pub mod Lines
 pub mod Streams

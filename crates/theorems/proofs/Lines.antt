@@ -5,7 +5,7 @@
 --   encode-then-check      what encode writes, the line check accepts with the same payload count and delimiter
 --   accepted-is-encoded    a line word that is accepted is the one that encode writes for its payload
 use mathlib.Core.Path.{_≡_, refl, sym, subst, _∙_}
-use mathlib.Core.List.{List, [], _∷_}
+use mathlib.Core.List.{List}
 use Prim.Native.Nat.{ℕ, _+_, _-_, _*_, _≤_, _<_}
 use native.Mathlib.Decide.{decLt}
 use native.Mathlib.Omega.{arith}
@@ -17,7 +17,7 @@ use Rattle.rules.specs.Matrix.{AllHold}
 use Rattle.rules.specs.Table.{fibre}
 use Rattle.rules.specs.Words.{padded, fullWord, Parity, tail, lineWord, lineBits}
 use Rattle.rules.specs.Verdicts.{LineVerdict}
-use Rattle.rules.specs.Refusals.{Refusal, wrongBytes, unusedSet, badDelimiter, encodeOrder, lineOrder}
+use Rattle.rules.specs.Refusals.{lineOrder}
 use Rattle.rules.specs.Promises.{Encoded, LineChecked}
 use Rattle.rules.specs.declared.Answer.the-variants.{Done}
 use Rattle.rules.specs.declared.Verdict.the-variants.{Accepted}
@@ -26,15 +26,16 @@ use Rattle.rules.specs.declared.Judgement.the-variants.{Judged}
 use Rattle.rules.proofs.Checks.{check-same}
 use Rattle.laws.proofs.Bits.{bit<, bit-take, bit-drop, bit-past, bits-same, pack, length-pack, bit-pack}
 use Rattle.laws.proofs.Runs.{run-low, run-high, run-each, run-same, run-below}
-use Rattle.laws.proofs.Told.{not-refused, alike}
-use Rattle.laws.proofs.Passed.{encode-passed, line-passed}
+use Rattle.laws.proofs.Told.{alike}
 use Rattle.laws.proofs.Tails.{tail-low, tail-high}
 use Rattle.parity.proofs.Single.{parity-bits-one}
 use Rattle.theorems.specs.Exactly.{Exactly}
+use Rattle.theorems.specs.Asked.{EncodeAsks}
 use Rattle.theorems.specs.Punctured.{completed, Completes}
 use Rattle.theorems.specs.Accepted.{GoodLine}
 use Rattle.theorems.proofs.Same.{tail-bits, line-check-same}
-use Rattle.theorems.proofs.Refusing.{free-told, whole-free, free-whole}
+use Rattle.theorems.proofs.Refusing.{free-told}
+use Rattle.theorems.proofs.Asked.{encode-exactly, line-free, line-exactly}
 
 -- a parity of x is one of any payload with the same bits
 parity-as : {x y : ℕ → ℕ} {p q : List ℕ} → length q ≡ 384 → ((n : ℕ) → n < 17664 → fullWord x p n ≡ fullWord y q n) → Parity x p → Parity y q
@@ -90,24 +91,16 @@ module _ (K : ℕ) (l : List ℕ) (d : ℕ) where
       holds n h = check-same fibre n (fullWord (padded K (bit l)) p) (completed K l q) word ∙ c .all-hold n h
 
   accepted-good : LineChecked K l d (Judged Accepted) → GoodLine K l d
-  accepted-good x =
-      let not = not-refused (lineOrder K l d) tt refl (x .told) in
-      let few = not 4 in
-      record {
-        count = free-whole K (not 1) (not 10);
-        bytes = alike (length l) (need (K + 2570)) (not 2);
-        unused = not 3;
-        delimiter = omega arith;
-        completed = accepted-completed (x .verdict);
-      }
+  accepted-good x = record {
+    asked = line-exactly K l d (Judged Accepted) x .0 (Accepted, refl);
+    completed = accepted-completed (x .verdict);
+  }
 
   good-accepted : GoodLine K l d → LineChecked K l d (Judged Accepted)
-  good-accepted g =
-      let rest : List Refusal = wrongBytes l (need (K + 2570)) ∷ unusedSet l (K + 2570) ∷ badDelimiter d ∷ [] in
-      record {
-        told = free-told (lineOrder K l d) (whole-free K rest (g .count) (λ x. x (g .bytes), (g .unused, (λ x. omega (arith, g .delimiter), tt))));
-        verdict = completed-accepted (g .completed .0) (g .completed .1);
-      }
+  good-accepted g = record {
+    told = free-told (lineOrder K l d) (line-free K l d .1 (g .asked));
+    verdict = completed-accepted (g .completed .0) (g .completed .1);
+  }
 
   pub line-accepted : (j : Judgement) → LineChecked K l d j → Exactly (j ≡ Judged Accepted) (GoodLine K l d)
   line-accepted j x = (
@@ -123,14 +116,14 @@ module _ (K : ℕ) (u : List ℕ) (d : ℕ) (o o′ : List ℕ) (e : Encoded K u
   abbrev p : List ℕ
   p = e .line .0
 
-  passed : (0 < K) × (K ≤ 14392) × (length u ≡ need K) × (UnusedSet u K → ⊥) × (d ≤ 1023) × (need (K + 2570) ≤ length o)
-  passed = encode-passed refl K u d (length o) (e .told)
+  asked : EncodeAsks K u d (length o)
+  asked = encode-exactly K u d o Done o′ e .0 refl
 
   line-bit : (n : ℕ) → n < 8 * need (K + 2570) → bit l n ≡ run (K + 2570) (lineWord K (bit u) p d) zeros n
   line-bit n h = bit-take o′ (need (K + 2570)) n h ∙ e .line .2 .bits n h
 
   line-length : length l ≡ need (K + 2570)
-  line-length = length-take-le (need (K + 2570)) o′ (omega (arith, passed .5, e .line .2 .length-same))
+  line-length = length-take-le (need (K + 2570)) o′ (omega (arith, asked .fits, e .line .2 .length-same))
 
   payload-bit : (n : ℕ) → n < K → bit l n ≡ bit u n
   payload-bit n h =
@@ -168,15 +161,10 @@ module _ (K : ℕ) (u : List ℕ) (d : ℕ) (o o′ : List ℕ) (e : Encoded K u
   ]
 
   good : GoodLine K l d
-  good =
-      let not = not-refused (encodeOrder K u d (length o)) tt refl (e .told) in
-      record {
-        count = free-whole K (not 1) (not 10);
-        bytes = line-length;
-        unused = unused;
-        delimiter = passed .4;
-        completed = accepted-completed K l d verdict;
-      }
+  good = record {
+    asked = record { count = asked .count; bytes = line-length; unused = unused; delimiter = asked .delimiter };
+    completed = accepted-completed K l d verdict;
+  }
 
   pub encode-then-check : (j : Judgement) → LineChecked K l d j → j ≡ Judged Accepted
   encode-then-check j h = line-accepted K l d j h .1 good
@@ -197,8 +185,8 @@ module _ (K : ℕ) (u : List ℕ) (d : ℕ) (o o′ : List ℕ) (e : Encoded K u
     abbrev q : List ℕ
     q = c .verdict .0
 
-    checked : (0 < K) × (K ≤ 14392) × (length k ≡ need (K + 2570)) × (UnusedSet k (K + 2570) → ⊥) × (d ≤ 1023)
-    checked = line-passed refl K k d (c .told)
+    checked : GoodLine K k d
+    checked = line-accepted K k d (Judged Accepted) c .0 refl
 
     one-parity : (n : ℕ) → n < 3072 → bit p n ≡ bit q n
     one-parity =
@@ -228,11 +216,11 @@ module _ (K : ℕ) (u : List ℕ) (d : ℕ) (o o′ : List ℕ) (e : Encoded K u
     ]
       where
         clear : (n : ℕ) → K + 2570 ≤ n → bit k n ≡ 0
-        clear n h = alike (bit k n) 0 (λ z. checked .3 (n, h, omega (arith, bit< k n)))
+        clear n h = alike (bit k n) 0 (λ z. checked .asked .unused (n, h, omega (arith, bit< k n)))
 
     pub accepted-is-encoded : l ≡ k
     accepted-is-encoded =
-        bits-same l k (λ i. bytes-take i) bytes (line-length ∙ sym (checked .2)) (λ n h. each n (omega (arith, line-length)))
+        bits-same l k (λ i. bytes-take i) bytes (line-length ∙ sym (checked .asked .bytes)) (λ n h. each n (omega (arith, line-length)))
       where
         bytes-take : (i : ℕ) → getD l i 0 < 256
         bytes-take i = elim (decLt i (need (K + 2570))) [

@@ -1,18 +1,17 @@
 -- Demand 1: each operation refuses by number, exactly where a refusal of its order applies, and a refusal changes nothing.
+-- Asked says the same of each operation in plain words.
 --
 --   told-free       an order tells none exactly where none of its refusals applies
 --   done-exactly    so an operation is done exactly there
 --   judged-exactly  and a check gives a verdict exactly there
---   whole-free      the refusals of a payload's count do not apply to whole data blocks, and
---   free-whole      to nothing else
 --   X-kept          where operation X is not done, every byte and every stream is as it was
 use mathlib.Core.Path.{_≡_, refl, ap}
-use mathlib.Core.Logic.{inl, inr, ⊎-elim}
-use mathlib.Core.List.{List, [], _∷_, _++_}
-use Prim.Native.Nat.{ℕ, _%_}
+use mathlib.Core.Logic.{inr}
+use mathlib.Core.List.{List, [], _∷_}
+use Prim.Native.Nat.{ℕ}
 use native.Mathlib.Omega.{arith}
 use lib.Dec.{T}
-use Rattle.rules.specs.Refusals.{Refusal, tells, badCount, brokenBlock, ofCount}
+use Rattle.rules.specs.Refusals.{Refusal, tells}
 use Rattle.rules.specs.Promises.{number, refusal, by, judged, Completed, Encoded, PieceTaken, Finished}
 use Rattle.rules.specs.declared.Answer.{Answer}
 use Rattle.rules.specs.declared.Answer.the-variants.{Done, Refused}
@@ -21,8 +20,8 @@ use Rattle.rules.specs.declared.Judgement.{Judgement}
 use Rattle.rules.specs.declared.Judgement.the-variants as judgement
 use Rattle.rules.specs.declared.Stream.{Stream}
 use Rattle.rules.specs.declared.Step.{Step}
-use Rattle.laws.proofs.Told.{numbered, rest-left, told-single, good-count, alike}
-use Rattle.theorems.specs.Exactly.{Exactly, Free, WholeBlocks}
+use Rattle.laws.proofs.Told.{numbered, rest-left, told-single}
+use Rattle.theorems.specs.Exactly.{Exactly, Free}
 
 -- where no refusal applies, none is told
 pub free-told : (o : List Refusal) → Free o → tells o 0
@@ -53,16 +52,6 @@ judged-exactly o h P (judgement.Judged v) x y = (λ e. told-free o h 0 x .0 refl
 judged-exactly o h P (judgement.Refused n) x y =
     let t = told-free o h n x in
     (λ e. t .0 (ap refusal (e .1)), λ f. absurd (omega (arith, y, t .1 f)))
-
-module _ (K : ℕ) where
-  pub whole-free : (o : List Refusal) → WholeBlocks K → Free o → Free (ofCount K ++ o)
-  whole-free o w f = (λ x. ⊎-elim (λ e. omega (arith, w .0)) (λ l. omega (arith, w .1)) x, (λ x. x (w .2), f))
-
-  pub free-whole : (badCount K .applies → ⊥) → (brokenBlock K .applies → ⊥) → WholeBlocks K
-  free-whole b k =
-      let c = good-count K b in
-      let m = alike (K % 257) 0 k in
-      (omega (arith, c .0, m), c .1, m)
 
 -- what an operation that is not done leaves
 kept : (a : Answer) (A B : Type 0) → (a ≡ Done → ⊥) → by a A B → B

@@ -4,26 +4,26 @@
 --                   bits held are the counts of the accepted pieces added up
 --   cut-alike       two cuttings of one payload, told bit by bit, leave the same stream
 --   no-cut-told     and no finish tells them apart: the same answer, the same stream, the same output
---   any-cut         a piece of any count is accepted, if its bytes are right and it fits
---   finish-exactly  a finish is done exactly where whole data blocks are held, the delimiter fits and there is room
 --   finish-encodes  the finish writes the tail that encode writes for the whole payload
 --   fresh-again     a finish that is done hands back a fresh stream
 --   second-refused  so that a second finish is refused by 1
+--
+-- Asked says when a piece is accepted, whatever its count, and when a finish is done.
 use mathlib.Core.Path.{_≡_, refl, sym, ap, subst, _∙_}
 use mathlib.Core.Logic.{inl, ⊎-elim}
-use mathlib.Core.List.{List, [], _∷_}
+use mathlib.Core.List.{List}
 use Prim.Native.Nat.{ℕ, zero, suc, _+_, _-_, _%_, _≤_, _<_}
 use native.Mathlib.Decide.{decLt}
 use native.Mathlib.Omega.{arith}
 use lib.Dec.{lit<, lit≤}
-use lib.ListN.{length, getD, replicate, length-replicate}
-use Rattle.rules.specs.Bits.{bit, Bytes, need, UnusedSet, zeros, run, placed, sum}
+use lib.ListN.{getD, replicate, length-replicate}
+use Rattle.rules.specs.Bits.{bit, Bytes, zeros, run, placed, sum}
 use Rattle.rules.specs.Matrix.{check}
 use Rattle.rules.specs.Table.{fibre}
-use Rattle.rules.specs.Words.{padded, tail, tailBits, lineWord}
+use Rattle.rules.specs.Words.{padded, tail, lineWord}
 use Rattle.rules.specs.Streams.{fresh, Fed}
-use Rattle.rules.specs.Refusals.{tells, badDelimiter, noRoom, pieceOrder, finishOrder}
-use Rattle.rules.specs.Promises.{number, by, Encoded, PieceTaken, Finished}
+use Rattle.rules.specs.Refusals.{tells, pieceOrder}
+use Rattle.rules.specs.Promises.{number, by, Encoded, Finished}
 use Rattle.rules.specs.declared.Answer.{Answer}
 use Rattle.rules.specs.declared.Answer.the-variants.{Done, Refused}
 use Rattle.rules.specs.declared.Stream.{Stream}
@@ -31,13 +31,10 @@ use Rattle.rules.specs.declared.Step.{Step}
 use Rattle.rules.proofs.Checks.{check-same, check-sum, check-zeros}
 use Rattle.laws.proofs.Bits.{bit<, bit-zeros, bits-same}
 use Rattle.laws.proofs.Runs.{run-low, run-high, run-each, run-below}
-use Rattle.laws.proofs.Told.{not-refused}
 use Rattle.laws.proofs.Passed.{piece-passed}
 use Rattle.parity.proofs.Single.{payload-own, own-bits-one}
-use Rattle.theorems.specs.Exactly.{Exactly, WholeBlocks}
 use Rattle.theorems.specs.Attempts.{chosen, Reached, begun, piece, finish, Running}
 use Rattle.theorems.proofs.Same.{stream-of, tail-bits, finish-same}
-use Rattle.theorems.proofs.Refusing.{done-exactly, whole-free, free-whole}
 
 zero-byte : (n i : ℕ) → _≡_ {A = ℕ} (getD (replicate n 0) i 0) 0
 zero-byte zero i = refl
@@ -129,31 +126,6 @@ module _ {u v : ℕ → ℕ} {h : ℕ} {s t : Stream} (x : Reached u h s) (y : R
 -- what a done operation leaves
 done-part : (a : Answer) (A B : Type 0) → a ≡ Done → by a A B → A
 done-part a A B e x = subst (λ (a : Answer). by a A B) e x
-
-pub any-cut : (b : ℕ) (s : List ℕ) (t : Stream) (r : Step) → length s ≡ need b → (UnusedSet s b → ⊥) → t .held + b ≤ 14392
-    → PieceTaken b s t r → r .answer ≡ Done
-any-cut b s t r l u h p =
-    done-exactly (pieceOrder (t .held) b s) tt (r .answer) _ _ (p .told) (p .stream) .1
-    (λ x. omega arith, (λ x. x l, (u, (λ x. omega arith, tt))))
-
-pub finish-exactly : (d : ℕ) (t : Stream) (o : List ℕ) (r : Step) (o′ : List ℕ) → Finished d t o r o′
-    → Exactly (r .answer ≡ Done) (WholeBlocks (t .held) × (d ≤ 1023) × (322 ≤ length o))
-finish-exactly d t o r o′ f = (there, back)
-  where
-    there : r .answer ≡ Done → WholeBlocks (t .held) × (d ≤ 1023) × (322 ≤ length o)
-    there e =
-        let not = not-refused (finishOrder (t .held) d (length o)) tt (ap number e) (f .told) in
-        let few = not 4 in
-        let room = not 5 in
-        (free-whole (t .held) (not 1) (not 10), omega arith, omega arith)
-
-    back : WholeBlocks (t .held) × (d ≤ 1023) × (322 ≤ length o) → r .answer ≡ Done
-    back w =
-        done-exactly (finishOrder (t .held) d (length o)) tt (r .answer) _ _ (f .told) (f .effect) .1 (
-          λ x. omega (arith, w .0 .1),
-          whole-free (t .held) (badDelimiter d ∷ noRoom (length o) tailBits ∷ []) (w .0)
-              (λ x. omega (arith, w .1), (λ x. omega (arith, w .2), tt)),
-        )
 
 -- v is the whole payload, as encode is given it, and l′ what encode wrote of it to l; o′ is what the finish wrote to o
 pub finish-encodes : {u : ℕ → ℕ} {h : ℕ} {t : Stream} (d : ℕ) (o : List ℕ) (r : Step) (o′ v l l′ : List ℕ) → Reached u h t

@@ -7,24 +7,18 @@
 use mathlib.Core.Path.{_≡_}
 use mathlib.Core.List.{List}
 use Prim.Native.Nat.{ℕ, _≤_, _<_}
-use lib.ListN.{length}
-use Rattle.rules.specs.Numbers.{payloadPlaces, delimiterMost}
-use Rattle.rules.specs.Bits.{bit, need, UnusedSet}
+use Rattle.rules.specs.Numbers.{payloadPlaces}
+use Rattle.rules.specs.Bits.{bit}
 use Rattle.rules.specs.Matrix.{AllHold}
 use Rattle.rules.specs.Table.{fibre}
-use Rattle.rules.specs.Words.{lineBits}
-use Rattle.theorems.specs.Exactly.{WholeBlocks}
+use Rattle.theorems.specs.Asked.{WordAsks, LineAsks}
 use Rattle.theorems.specs.Punctured.{Completes}
 
 pub record GoodWord (K : ℕ) (w : List ℕ) : Type 0 where
-  pub count : WholeBlocks K
-  pub bytes : length w ≡ 2208
+  pub asked : WordAsks K w
   pub shortened : (n : ℕ) → K ≤ n → n < payloadPlaces → bit w n ≡ 0
   pub all-hold : AllHold fibre (bit w)
 
 pub record GoodLine (K : ℕ) (l : List ℕ) (d : ℕ) : Type 0 where
-  pub count : WholeBlocks K
-  pub bytes : length l ≡ need (lineBits K)
-  pub unused : UnusedSet l (lineBits K) → ⊥
-  pub delimiter : d ≤ delimiterMost
+  pub asked : LineAsks K l d
   pub completed : (q : List ℕ) × Completes K l d q
