@@ -20,7 +20,8 @@ module _ (s : List ℕ) (i : ℕ) where
   byte-digits : (t : ℕ) → t < 8 → digit (getD s i 0) t ≡ bit s (8 * i + t)
   byte-digits t h = rw (block-of 8 i t h, local-of 8 i t h)
 
-  pub ones-more : (m : ℕ) → m ≡ total (8 * i) (bit s) → getD s i 0 < 256 → m + ones (getD s i 0) ≡ total (8 * (i + 1)) (bit s)
+  pub ones-more : (m : ℕ) → m ≡ total (8 * i) (bit s) → getD s i 0 < 256
+      → m + ones (getD s i 0) ≡ total (8 * (i + 1)) (bit s)
   ones-more m e h =
       let next : 8 * i + 8 ≡ 8 * (i + 1) = omega arith in
       ap₂ _+_ e (ones-digits 8 (getD s i 0) h ∙ total-same 8 (digit (getD s i 0)) (λ t. bit s (8 * i + t)) byte-digits)

@@ -1,7 +1,9 @@
 // Decimal numbers, as texts and arguments spell them.
 ghost use mathlib.Core.Path.{_≡_};
+ghost use lib.ListN.{length};
 ghost use Rattle.io.specs.Counts.{Counts};
-ghost use Rattle.console.specs.Spelled.{WithDigit, Spelled, isOne, orZero};
+ghost use Rattle.console.specs.Spelled.{WithDigit, WithByte, Spelled, isOne, orZero};
+ghost use Rattle.console.specs.Lines.{lineBytes};
 use crate::say;
 
 // What a text spells: a number; nothing of the kind; or one above the largest usize.
@@ -28,6 +30,18 @@ fn with_digit(value: usize, byte: u8) -> Number
     Number::Is(10 * value + digit)
 }
 
+// What a text spells with one byte more. The largest usize stands for a number too large: with a digit more it is one,
+// and with any other byte nothing is spelled.
+fn with_byte(number: Number, byte: u8) -> Number
+    ensures { λ r. ⌜ WithByte number byte r ⌝ }
+{
+    match number {
+        Number::Is(value) => with_digit(value, byte),
+        Number::Nothing => Number::Nothing,
+        Number::TooLarge => with_digit(usize::MAX, byte),
+    }
+}
+
 // The number that a text spells in digits.
 pub fn read(text: &[u8]) -> Number
     ensures { λ r. ⌜ Spelled (now (text .entry)) r ⌝ }
@@ -35,21 +49,11 @@ pub fn read(text: &[u8]) -> Number
     if text.len() == 0 {
         return Number::Nothing;
     }
-    let mut value = 0;
+    let mut number = Number::Is(0);
     for i in 0..text.len() {
-        match with_digit(value, text[i]) {
-            Number::Is(more) => {
-                value = more;
-            }
-            Number::Nothing => {
-                return Number::Nothing;
-            }
-            Number::TooLarge => {
-                return Number::TooLarge;
-            }
-        }
+        number = with_byte(number, text[i]);
     }
-    Number::Is(value)
+    number
 }
 
 pub fn is_one(number: Number) -> bool
@@ -93,6 +97,7 @@ pub fn argument(i: usize, name: &[u8], range: &[u8]) -> Number {
 // How many bytes of a line the line word of so many payload bits takes. There is one for at most 14,392 of them.
 pub fn line_bytes(bits: usize, line: &[u8]) -> usize
     ensures { λ r. ⌜ Counts r (now (line .entry)) ⌝ }
+    ensures { λ r. ⌜ r ≡ lineBytes bits (length (now (line .entry))) ⌝ }
 {
     if 14392 < bits {
         return 0;

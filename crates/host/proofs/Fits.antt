@@ -44,8 +44,10 @@ answer-fits P f (Refused n) h s = (h, s)
 
 pub word-fits : (K : ℕ) (w : List ℕ) (j : Judgement) → WordChecked K w j → JudgementFits j
 word-fits K w j x =
-    answer-fits (WordVerdict K (bit w)) (word-verdict K (bit w)) j (x .verdict) (told-short (wordOrder K w) tt (refusal j) (x .told))
+    answer-fits (WordVerdict K (bit w)) (word-verdict K (bit w)) j (x .verdict)
+    (told-short (wordOrder K w) tt (refusal j) (x .told))
 
 pub line-fits : (K : ℕ) (l : List ℕ) (d : ℕ) (j : Judgement) → LineChecked K l d j → JudgementFits j
 line-fits K l d j x =
-    answer-fits (LineVerdict K l d) (line-verdict K l d) j (x .verdict) (told-short (lineOrder K l d) tt (refusal j) (x .told))
+    answer-fits (LineVerdict K l d) (line-verdict K l d) j (x .verdict)
+    (told-short (lineOrder K l d) tt (refusal j) (x .told))

@@ -4,7 +4,7 @@
 --                       of failing rows, and 0 for the other causes
 --   verdictNumber v     0 for accepted
 --   judgementNumber j   the refusal's number, or the verdict's
---   JudgementFits j     its place and its count are below 2^16, as those of every word are, and a refusal is 1 to 65,535
+--   JudgementFits j     its place and its count are below 2^16, as those of every word are; a refusal is 1 to 65,535
 --   readBack r          the answer of a check that the number r tells, by the parts that the header names
 --   HostEncoded ..      what birdovesta_encode promises
 --   HostWord ..         what birdovesta_check_word promises

@@ -139,5 +139,6 @@ ones-digits (suc n) x h =
     let above : (k : ℕ) → digit (x / 2) k ≡ digit x (1 + k) =
     λ k. let e : k + 1 ≡ 1 + k = omega arith in digit-right x 1 k ∙ ap (digit x) e in
     ones-step x
-    ∙ ap (λ (v : ℕ). x % 2 + v) (ones-digits n (x / 2) half ∙ total-same n (digit (x / 2)) (λ k. digit x (1 + k)) (λ k l. above k))
+    ∙ ap (λ (v : ℕ). x % 2 + v)
+    (ones-digits n (x / 2) half ∙ total-same n (digit (x / 2)) (λ k. digit x (1 + k)) (λ k l. above k))
     ∙ sym (ap (λ (m : ℕ). total m (digit x)) one ∙ total-from 1 n (digit x) ∙ omega (arith, lowest))

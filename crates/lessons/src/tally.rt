@@ -1,4 +1,6 @@
 // How many of what was tried is right, and how many wrong.
+ghost use mathlib.Core.Path.{_≡_};
+ghost use Rattle.lessons.specs.Tallies.{none, oneMore, counted};
 use console::say;
 
 pub struct Tally {
@@ -6,12 +8,16 @@ pub struct Tally {
     pub wrong: usize,
 }
 
-pub fn new() -> Tally {
+pub fn new() -> Tally
+    ensures { λ r. ⌜ r ≡ none ⌝ }
+{
     Tally { right: 0, wrong: 0 }
 }
 
 // One more, as far as can be counted.
-pub fn more(count: usize) -> usize {
+pub fn more(count: usize) -> usize
+    ensures { λ r. ⌜ r ≡ oneMore count ⌝ }
+{
     if count < usize::MAX {
         return count + 1;
     }
@@ -19,8 +25,10 @@ pub fn more(count: usize) -> usize {
 }
 
 // Begins a line with `right` or `wrong`, and counts it.
-pub fn count(tally: Tally, is_right: bool) -> Tally {
-    if is_right {
+pub fn count(tally: Tally, right: bool) -> Tally
+    ensures { λ r. ⌜ r ≡ counted tally right ⌝ }
+{
+    if right {
         say::text(b"right ");
         return Tally {
             right: more(tally.right),

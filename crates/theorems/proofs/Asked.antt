@@ -4,12 +4,13 @@
 --   X-exactly    so X is done, or gives a verdict, exactly then
 use mathlib.Core.Path.{_≡_, refl}
 use mathlib.Core.Logic.{⊎-elim}
-use mathlib.Core.List.{List}
+use mathlib.Core.List.{List, [], _∷_}
 use Prim.Native.Nat.{ℕ, _%_, _≤_, _<_}
 use native.Mathlib.Omega.{arith}
 use lib.Dec.{T}
 use lib.ListN.{length}
-use Rattle.rules.specs.Refusals.{Refusal, badCount, brokenBlock}
+use Rattle.rules.specs.Words.{lineBits}
+use Rattle.rules.specs.Refusals.{Refusal, badCount, brokenBlock, badDelimiter, noRoom}
 use Rattle.rules.specs.Refusals.{encodeOrder, pieceOrder, finishOrder, completeOrder, wordOrder, lineOrder}
 use Rattle.rules.specs.Promises.{Completed, WordChecked, Encoded, LineChecked, PieceTaken, Finished}
 use Rattle.rules.specs.declared.Answer.{Answer}
@@ -51,13 +52,19 @@ module _ (K : ℕ) (u : List ℕ) (d room : ℕ) where
       there f =
           let o = encodeOrder K u d room in
           let p = encode-passed refl K u d room (free-told o f) in
-          record { count = whole K (p .0) (p .1) (unrefused o tt f 10); bytes = p .2; unused = p .3; delimiter = p .4; fits = p .5 }
+          record {
+            count = whole K (p .0) (p .1) (unrefused o tt f 10);
+            bytes = p .2;
+            unused = p .3;
+            delimiter = p .4;
+            fits = p .5;
+          }
 
       back : EncodeAsks K u d room → Free (encodeOrder K u d room)
-      back a = (
-        good K (a .count),
-        (unbroken K (a .count), (λ x. x (a .bytes), (a .unused, (λ x. omega (arith, a .delimiter), (λ x. omega (arith, a .fits), tt))))),
-      )
+      back a =
+          let last : Free (badDelimiter d ∷ noRoom room (lineBits K) ∷ []) =
+          (λ x. omega (arith, a .delimiter), (λ x. omega (arith, a .fits), tt)) in
+          (good K (a .count), (unbroken K (a .count), (λ x. x (a .bytes), (a .unused, last))))
 
 module _ (K : ℕ) (w : List ℕ) where
   complete-free : Exactly (Free (completeOrder K w)) (CompleteAsks K w)
@@ -120,7 +127,10 @@ finish-free held d room = (there, back)
     back : FinishAsks held d room → Free (finishOrder held d room)
     back a = (
       λ x. omega (arith, a .count .1),
-      (good held (a .count), (unbroken held (a .count), (λ x. omega (arith, a .delimiter), (λ x. omega (arith, a .fits), tt)))),
+      (
+        good held (a .count),
+        (unbroken held (a .count), (λ x. omega (arith, a .delimiter), (λ x. omega (arith, a .fits), tt))),
+      ),
     )
 
 pub encode-exactly : (K : ℕ) (u : List ℕ) (d : ℕ) (o : List ℕ) (a : Answer) (o′ : List ℕ) → Encoded K u d o a o′
@@ -128,13 +138,16 @@ pub encode-exactly : (K : ℕ) (u : List ℕ) (d : ℕ) (o : List ℕ) (a : Answ
 encode-exactly K u d o a o′ x =
     through (done-exactly (encodeOrder K u d (length o)) tt a _ _ (x .told) (x .line)) (encode-free K u d (length o))
 
-pub complete-exactly : (K : ℕ) (w : List ℕ) (a : Answer) (w′ : List ℕ) → Completed K w a w′ → Exactly (a ≡ Done) (CompleteAsks K w)
-complete-exactly K w a w′ x = through (done-exactly (completeOrder K w) tt a _ _ (x .told) (x .word)) (complete-free K w)
+pub complete-exactly : (K : ℕ) (w : List ℕ) (a : Answer) (w′ : List ℕ) → Completed K w a w′
+    → Exactly (a ≡ Done) (CompleteAsks K w)
+complete-exactly K w a w′ x =
+    through (done-exactly (completeOrder K w) tt a _ _ (x .told) (x .word)) (complete-free K w)
 
 pub piece-exactly : (b : ℕ) (s : List ℕ) (t : Stream) (r : Step) → PieceTaken b s t r
     → Exactly (r .answer ≡ Done) (PieceAsks (t .held) b s)
 piece-exactly b s t r x =
-    through (done-exactly (pieceOrder (t .held) b s) tt (r .answer) _ _ (x .told) (x .stream)) (piece-free (t .held) b s)
+    through (done-exactly (pieceOrder (t .held) b s) tt (r .answer) _ _ (x .told) (x .stream))
+    (piece-free (t .held) b s)
 
 pub finish-exactly : (d : ℕ) (t : Stream) (o : List ℕ) (r : Step) (o′ : List ℕ) → Finished d t o r o′
     → Exactly (r .answer ≡ Done) (FinishAsks (t .held) d (length o))
@@ -142,7 +155,8 @@ finish-exactly d t o r o′ x =
     through (done-exactly (finishOrder (t .held) d (length o)) tt (r .answer) _ _ (x .told) (x .effect))
     (finish-free (t .held) d (length o))
 
-pub word-exactly : (K : ℕ) (w : List ℕ) (j : Judgement) → WordChecked K w j → Exactly ((v : Verdict) × (j ≡ Judged v)) (WordAsks K w)
+pub word-exactly : (K : ℕ) (w : List ℕ) (j : Judgement) → WordChecked K w j
+    → Exactly ((v : Verdict) × (j ≡ Judged v)) (WordAsks K w)
 word-exactly K w j x = through (judged-exactly (wordOrder K w) tt _ j (x .told) (x .verdict)) (word-free K w)
 
 pub line-exactly : (K : ℕ) (l : List ℕ) (d : ℕ) (j : Judgement) → LineChecked K l d j

@@ -78,7 +78,9 @@ module _ (K : ℕ) (w : List ℕ) where
   check-named n m x =
       let v = x .verdict in
       let below : (k : ℕ) → k < n → check fibre k (bit w) ≡ 0 =
-      λ k l. not-one (check fibre k (bit w)) (check-below fibre k (bit w)) (λ e. v .1 .1 k l (omega (arith, l, v .1 .0 .0), e)) in
+      λ k l.
+      not-one (check fibre k (bit w)) (check-below fibre k (bit w))
+      (λ e. v .1 .1 k l (omega (arith, l, v .1 .0 .0), e)) in
       (unset (v .0), v .1 .0 .0, v .1 .0 .1, below, v .2)
 
 module _ (K : ℕ) (w w′ : List ℕ) (c : Completed K w Done w′) where

@@ -1,5 +1,5 @@
--- The C boundary: two outcomes that fit one promise are equal, 0 is told exactly when written or accepted, a refusal is 1 to
--- 65,535, and a check's answer can be read back from its number.
+-- The C boundary: two outcomes that fit one promise are equal, 0 is told exactly when written or accepted, a refusal is
+-- 1 to 65,535, and a check's answer can be read back from its number.
 --
 --   host-encode-same, host-word-same, host-line-same    two outcomes of one call are equal
 --   host-encode-zero        0 exactly when written
@@ -35,7 +35,8 @@ use Rattle.theorems.proofs.FullWords.{word-accepted}
 use Rattle.theorems.proofs.Lines.{line-accepted}
 
 module _ (K : ℕ) (u : List ℕ) (d : ℕ) (o : List ℕ) where
-  pub host-encode-same : (r s : ℕ) (o′ o″ : List ℕ) → Bytes o′ → Bytes o″ → HostEncoded K u d o r o′ → HostEncoded K u d o s o″
+  pub host-encode-same : (r s : ℕ) (o′ o″ : List ℕ) → Bytes o′ → Bytes o″ → HostEncoded K u d o r o′
+      → HostEncoded K u d o s o″
       → (r ≡ s) × (o′ ≡ o″)
   host-encode-same r s o′ o″ b b′ x y =
       let e = encode-same K u d o (x .answer) (y .answer) o′ o″ b b′ (x .encoded) (y .encoded) in
@@ -43,7 +44,9 @@ module _ (K : ℕ) (u : List ℕ) (d : ℕ) (o : List ℕ) where
 
   pub host-encode-zero : (r : ℕ) (o′ : List ℕ) → HostEncoded K u d o r o′ → Exactly (r ≡ 0) (Encoded K u d o Done o′)
   host-encode-zero r o′ x = (
-    λ e. subst (λ (a : Answer). Encoded K u d o a o′) (none-done (x .answer) _ _ (sym (x .result) ∙ e) (x .encoded .line)) (x .encoded),
+    λ e.
+        let done = none-done (x .answer) _ _ (sym (x .result) ∙ e) (x .encoded .line) in
+        subst (λ (a : Answer). Encoded K u d o a o′) done (x .encoded),
     λ w. x .result ∙ told-single (encodeOrder K u d (length o)) (number (x .answer)) 0 (x .encoded .told) (w .told),
   )
 
@@ -52,60 +55,71 @@ module _ (K : ℕ) (u : List ℕ) (d : ℕ) (o : List ℕ) where
   host-encode-refused r o′ x n =
       let t : tells (encodeOrder K u d (length o)) r = rw (x .result) (x .encoded .told) in
       let not-done : x .answer ≡ Done → ⊥ = λ e. n (x .result ∙ ap number e) in
-      (t, omega arith, told-short (encodeOrder K u d (length o)) tt r t, encode-kept K u d o (x .answer) o′ not-done (x .encoded))
+      let kept = encode-kept K u d o (x .answer) o′ not-done (x .encoded) in
+      (t, omega arith, told-short (encodeOrder K u d (length o)) tt r t, kept)
 
--- r is the number of j, which a check may answer: P says which answers those are, G when they are accepted
-module _ (P : Judgement → Type 0) (r : ℕ) (j : Judgement) (p : P j) (fits : JudgementFits j) (told : r ≡ judgementNumber j) where
-  told-read : P (readBack r)
-  told-read = subst P (sym (ap readBack told ∙ read-back j fits)) p
+-- P says what a check may answer to an input, and G when it accepts that input; r is the number of an answer j
+module _ (P : Judgement → Type 0) (G : Type 0) (accepted : (j : Judgement) → P j → Exactly (j ≡ Judged Accepted) G)
+    (fits : (j : Judgement) → P j → JudgementFits j) where
+  told : (r : ℕ) (j : Judgement) → P j → r ≡ judgementNumber j
+      → P (readBack r) × Exactly (r ≡ 0) G × Exactly ((0 < r) × (r < 2 ^ 16)) (P (Refused r))
+  told r j p e = (read, zero, short)
+    where
+      read : P (readBack r)
+      read = subst P (sym (ap readBack e ∙ read-back j (fits j p))) p
 
-  told-zero : (G : Type 0) → ((i : Judgement) → P i → Exactly (i ≡ Judged Accepted) G) → Exactly (r ≡ 0) G
-  told-zero G accepted = (
-    λ e. accepted j p .0 (apart j (Judged Accepted) fits tt (sym told ∙ e)),
-    λ g. told ∙ ap judgementNumber (accepted j p .1 g),
-  )
+      zero : Exactly (r ≡ 0) G
+      zero = (
+        λ z. accepted j p .0 (apart j (Judged Accepted) (fits j p) tt (sym e ∙ z)),
+        λ g. e ∙ ap judgementNumber (accepted j p .1 g),
+      )
 
-  told-refused : ((i : Judgement) → P i → JudgementFits i) → Exactly ((0 < r) × (r < 2 ^ 16)) (P (Refused r))
-  told-refused fit = (
-    λ h. subst P (rw (ne-eqb r 0 (λ z. omega (arith, h .0)), lt-ltb r (2 ^ 16) (h .1))) told-read,
-    λ q. fit (Refused r) q,
-  )
+      short : Exactly ((0 < r) × (r < 2 ^ 16)) (P (Refused r))
+      short = (
+        λ h. subst P (rw (ne-eqb r 0 (λ z. omega (arith, h .0)), lt-ltb r (2 ^ 16) (h .1))) read,
+        λ q. fits (Refused r) q,
+      )
 
 module _ (K : ℕ) (w : List ℕ) where
   pub host-word-same : (r s : ℕ) → HostWord K w r → HostWord K w s → r ≡ s
   host-word-same r s x y =
-      x .result ∙ ap judgementNumber (word-check-same K w (x .judgement) (y .judgement) (x .checked) (y .checked)) ∙ sym (y .result)
+      let same = word-check-same K w (x .judgement) (y .judgement) (x .checked) (y .checked) in
+      x .result ∙ ap judgementNumber same ∙ sym (y .result)
 
   module _ (r : ℕ) (x : HostWord K w r) where
-    word-told : JudgementFits (x .judgement)
-    word-told = word-fits K w (x .judgement) (x .checked)
+    word-told : WordChecked K w (readBack r) × Exactly (r ≡ 0) (GoodWord K w)
+        × Exactly ((0 < r) × (r < 2 ^ 16)) (WordChecked K w (Refused r))
+    word-told = told (WordChecked K w) _ (word-accepted K w) (word-fits K w) r (x .judgement) (x .checked) (x .result)
 
     pub host-word-read : WordChecked K w (readBack r)
-    host-word-read = told-read (WordChecked K w) r (x .judgement) (x .checked) word-told (x .result)
+    host-word-read = word-told .0
 
     pub host-word-zero : Exactly (r ≡ 0) (GoodWord K w)
-    host-word-zero = told-zero (WordChecked K w) r (x .judgement) (x .checked) word-told (x .result) _ (word-accepted K w)
+    host-word-zero = word-told .1
 
     pub host-word-refused : Exactly ((0 < r) × (r < 2 ^ 16)) (WordChecked K w (Refused r))
-    host-word-refused = told-refused (WordChecked K w) r (x .judgement) (x .checked) word-told (x .result) (word-fits K w)
+    host-word-refused = word-told .2
 
 module _ (K : ℕ) (l : List ℕ) (d : ℕ) where
   pub host-line-same : (r s : ℕ) → HostLine K l d r → HostLine K l d s → r ≡ s
   host-line-same r s x y =
-      x .result ∙ ap judgementNumber (line-check-same K l d (x .judgement) (y .judgement) (x .checked) (y .checked)) ∙ sym (y .result)
+      let same = line-check-same K l d (x .judgement) (y .judgement) (x .checked) (y .checked) in
+      x .result ∙ ap judgementNumber same ∙ sym (y .result)
 
   module _ (r : ℕ) (x : HostLine K l d r) where
-    line-told : JudgementFits (x .judgement)
-    line-told = line-fits K l d (x .judgement) (x .checked)
+    line-told : LineChecked K l d (readBack r) × Exactly (r ≡ 0) (GoodLine K l d)
+        × Exactly ((0 < r) × (r < 2 ^ 16)) (LineChecked K l d (Refused r))
+    line-told =
+        told (LineChecked K l d) _ (line-accepted K l d) (line-fits K l d) r (x .judgement) (x .checked) (x .result)
 
     pub host-line-read : LineChecked K l d (readBack r)
-    host-line-read = told-read (LineChecked K l d) r (x .judgement) (x .checked) line-told (x .result)
+    host-line-read = line-told .0
 
     pub host-line-zero : Exactly (r ≡ 0) (GoodLine K l d)
-    host-line-zero = told-zero (LineChecked K l d) r (x .judgement) (x .checked) line-told (x .result) _ (line-accepted K l d)
+    host-line-zero = line-told .1
 
     pub host-line-refused : Exactly ((0 < r) × (r < 2 ^ 16)) (LineChecked K l d (Refused r))
-    host-line-refused = told-refused (LineChecked K l d) r (x .judgement) (x .checked) line-told (x .result) (line-fits K l d)
+    host-line-refused = line-told .2
 
 answer-fits : (j : Judgement) → CheckAnswer j → JudgementFits j
 answer-fits j a = ⊎-elim (λ x. word-fits (x .0) (x .1) j (x .2)) (λ x. line-fits (x .0) (x .1) (x .2) j (x .3)) a

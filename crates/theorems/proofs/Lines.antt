@@ -1,6 +1,7 @@
 -- Line words: what encode writes, which the line check accepts, and that the two agree.
 --
---   line-accepted          a line word is accepted exactly when some 512 punctured bits complete it and its delimiter is the one given
+--   line-accepted          a line word is accepted exactly when some 512 punctured bits complete it and its delimiter
+--                          is the one given
 --   encode-exact           what encode writes is the line word of whatever parity makes every check hold
 --   encode-then-check      what encode writes, the line check accepts with the same payload count and delimiter
 --   accepted-is-encoded    a line word that is accepted is the one that encode writes for its payload
@@ -38,7 +39,8 @@ use Rattle.theorems.proofs.Refusing.{free-told}
 use Rattle.theorems.proofs.Asked.{encode-exactly, line-free, line-exactly}
 
 -- a parity of x is one of any payload with the same bits
-parity-as : {x y : ℕ → ℕ} {p q : List ℕ} → length q ≡ 384 → ((n : ℕ) → n < 17664 → fullWord x p n ≡ fullWord y q n) → Parity x p → Parity y q
+parity-as : {x y : ℕ → ℕ} {p q : List ℕ} → length q ≡ 384 → ((n : ℕ) → n < 17664 → fullWord x p n ≡ fullWord y q n)
+    → Parity x p → Parity y q
 parity-as {x} {y} {p} {q} l e h = record {
   bytes = l;
   all-hold = λ n k. sym (check-same fibre n (fullWord x p) (fullWord y q) e) ∙ h .all-hold n k;
@@ -61,7 +63,9 @@ module _ (K : ℕ) (l : List ℕ) (d : ℕ) where
           (λ h. alike _ _ (λ x. v .2 .0 n (h, x)))
           (λ h. let e : 8 * 320 + (n - 2560) ≡ n = omega arith in bit-drop (v .0) 320 (n - 2560) ∙ rw e)
 
-      word : (n : ℕ) → run 14592 (padded K (bit l)) (run 2560 (λ n. bit l (K + n)) (bit (drop 320 (v .0)))) n ≡ fullWord (padded K (bit l)) (v .0) n
+      word : (n : ℕ)
+          → run 14592 (padded K (bit l)) (run 2560 (λ n. bit l (K + n)) (bit (drop 320 (v .0)))) n
+          ≡ fullWord (padded K (bit l)) (v .0) n
       word = run-same 14592 (padded K (bit l)) _ (padded K (bit l)) (bit (v .0)) (λ n h. refl) parity
 
   completed-accepted : (q : List ℕ) → Completes K l d q → LineVerdict K l d Accepted
@@ -176,7 +180,9 @@ module _ (K : ℕ) (u : List ℕ) (d : ℕ) (o o′ : List ℕ) (e : Encoded K u
       let word = run-same K (bit u) (tail p d) (bit u) (tail q d) (λ n l. refl) same in
       record {
         length-same = w .length-same;
-        bits = λ n l. w .bits n l ∙ run-same (lineBits K) (lineWord K (bit u) p d) zeros _ zeros (λ m k. word m) (λ m. refl) n;
+        bits = λ n l.
+            w .bits n l
+            ∙ run-same (lineBits K) (lineWord K (bit u) p d) zeros _ zeros (λ m k. word m) (λ m. refl) n;
         after = w .after;
       }
 
@@ -220,7 +226,8 @@ module _ (K : ℕ) (u : List ℕ) (d : ℕ) (o o′ : List ℕ) (e : Encoded K u
 
     pub accepted-is-encoded : l ≡ k
     accepted-is-encoded =
-        bits-same l k (λ i. bytes-take i) bytes (line-length ∙ sym (checked .asked .bytes)) (λ n h. each n (omega (arith, line-length)))
+        bits-same l k (λ i. bytes-take i) bytes (line-length ∙ sym (checked .asked .bytes))
+        (λ n h. each n (omega (arith, line-length)))
       where
         bytes-take : (i : ℕ) → getD l i 0 < 256
         bytes-take i = elim (decLt i (need (K + 2570))) [

@@ -1,4 +1,5 @@
--- Demand 1: each operation refuses by number, exactly where a refusal of its order applies, and a refusal changes nothing.
+-- Demand 1: each operation refuses by number, exactly where a refusal of its order applies, and a refusal changes
+-- nothing.
 -- Asked says the same of each operation in plain words.
 --
 --   told-free       an order tells none exactly where none of its refusals applies
@@ -46,7 +47,8 @@ done-exactly o h a A B x y =
     let t = told-free o h (number a) x in
     (λ e. t .0 (ap number e), λ f. none-done a A B (t .1 f) y)
 
-pub judged-exactly : (o : List Refusal) → T (numbered o) → (P : Verdict → Type 0) (j : Judgement) → tells o (refusal j) → judged P j
+pub judged-exactly : (o : List Refusal) → T (numbered o) → (P : Verdict → Type 0) (j : Judgement)
+    → tells o (refusal j) → judged P j
     → Exactly ((v : Verdict) × (j ≡ judgement.Judged v)) (Free o)
 judged-exactly o h P (judgement.Judged v) x y = (λ e. told-free o h 0 x .0 refl, λ f. (v, refl))
 judged-exactly o h P (judgement.Refused n) x y =
@@ -61,12 +63,15 @@ kept (Refused n) A B d x = x .1
 pub complete-kept : (K : ℕ) (w : List ℕ) (a : Answer) (w′ : List ℕ) → (a ≡ Done → ⊥) → Completed K w a w′ → w′ ≡ w
 complete-kept K w a w′ d x = kept a _ _ d (x .word)
 
-pub encode-kept : (K : ℕ) (u : List ℕ) (d : ℕ) (o : List ℕ) (a : Answer) (o′ : List ℕ) → (a ≡ Done → ⊥) → Encoded K u d o a o′ → o′ ≡ o
+pub encode-kept : (K : ℕ) (u : List ℕ) (d : ℕ) (o : List ℕ) (a : Answer) (o′ : List ℕ) → (a ≡ Done → ⊥)
+    → Encoded K u d o a o′ → o′ ≡ o
 encode-kept K u d o a o′ n x = kept a _ _ n (x .line)
 
-pub piece-kept : (b : ℕ) (s : List ℕ) (t : Stream) (r : Step) → (r .answer ≡ Done → ⊥) → PieceTaken b s t r → r .stream ≡ t
+pub piece-kept : (b : ℕ) (s : List ℕ) (t : Stream) (r : Step) → (r .answer ≡ Done → ⊥) → PieceTaken b s t r
+    → r .stream ≡ t
 piece-kept b s t r d x = kept (r .answer) _ _ d (x .stream)
 
-pub finish-kept : (d : ℕ) (t : Stream) (o : List ℕ) (r : Step) (o′ : List ℕ) → (r .answer ≡ Done → ⊥) → Finished d t o r o′
+pub finish-kept : (d : ℕ) (t : Stream) (o : List ℕ) (r : Step) (o′ : List ℕ) → (r .answer ≡ Done → ⊥)
+    → Finished d t o r o′
     → (r .stream ≡ t) × (o′ ≡ o)
 finish-kept d t o r o′ n x = kept (r .answer) _ _ n (x .effect)

@@ -1,7 +1,7 @@
 -- Demand 3: a stream takes a payload cut anywhere, and no cut can be told from another.
 --
---   running         after any attempts the running checks are those of the bits accepted so far, followed by zeros, and the
---                   bits held are the counts of the accepted pieces added up
+--   running         after any attempts the running checks are those of the bits accepted so far, followed by zeros
+--   held-counted    and the bits held are the counts of the accepted pieces added up
 --   cut-alike       two cuttings of one payload, told bit by bit, leave the same stream
 --   no-cut-told     and no finish tells them apart: the same answer, the same stream, the same output
 --   finish-encodes  the finish writes the tail that encode writes for the whole payload
@@ -53,7 +53,8 @@ fresh-running = record {
 }
 
 -- the bits u, and then b bits of s, as a sum
-joined : (h b : ℕ) (u x : ℕ → ℕ) → ((n : ℕ) → u n < 2) → ((n : ℕ) → h ≤ n → u n ≡ 0) → ((n : ℕ) → x n < 2) → (n : ℕ) → sum u (placed h b x) n ≡ run h u (run b x zeros) n
+joined : (h b : ℕ) (u x : ℕ → ℕ) → ((n : ℕ) → u n < 2) → ((n : ℕ) → h ≤ n → u n ≡ 0) → ((n : ℕ) → x n < 2) → (n : ℕ)
+    → sum u (placed h b x) n ≡ run h u (run b x zeros) n
 joined h b u x below after bits n =
     run-each h u (run b x zeros) n (λ v. (u n + placed h b x n) % 2 ≡ v)
     (λ l. rw (run-low h zeros (run b x zeros) n l) (omega (arith, below n)))
@@ -65,7 +66,7 @@ module _ {u : ℕ → ℕ} {h : ℕ} {t : Stream} (r : Running u h t) where
   fed-running {v} b s fits f bytes = record {
     held = omega (arith, f .held, r .held);
     most = omega (arith, r .held);
-    bits = run-below h u (run b (bit s) zeros) (λ n l. r .bits n) (run-below b (bit s) zeros (λ n l. bit< s n) (λ n. lit< tt));
+    bits = run-below h u _ (λ n l. r .bits n) (run-below b (bit s) zeros (λ n l. bit< s n) (λ n. lit< tt));
     after = λ n l. run-high h u (run b (bit s) zeros) n (omega arith) ∙ run-high b (bit s) zeros (n - h) (omega arith);
     long = f .checks .length-same ∙ r .long;
     bytes = bytes;
@@ -78,7 +79,8 @@ module _ {u : ℕ → ℕ} {h : ℕ} {t : Stream} (r : Running u h t) where
   }
 
   taken-running : (b : ℕ) (s : List ℕ) (a : Answer) (v : Stream) → tells (pieceOrder (t .held) b s) (number a)
-      → by a (Fed b s t v) (v ≡ t) → Bytes (v .checks) → Running (chosen a (run h u (run b (bit s) zeros)) u) (chosen a (h + b) h) v
+      → by a (Fed b s t v) (v ≡ t) → Bytes (v .checks)
+      → Running (chosen a (run h u (run b (bit s) zeros)) u) (chosen a (h + b) h) v
   taken-running b s Done v told f bytes = fed-running b s (piece-passed refl (t .held) b s told .2) f bytes
   taken-running b s (Refused n) v told f bytes = subst (Running u h) (sym (f .1)) r
 
@@ -90,7 +92,11 @@ module _ {u : ℕ → ℕ} {h : ℕ} {t : Stream} (r : Running u h t) where
 pub running : {u : ℕ → ℕ} {h : ℕ} {t : Stream} → Reached u h t → Running u h t
 running begun = fresh-running
 running (piece b s r x p bytes) = taken-running (running x) b s (r .answer) (r .stream) (p .told) (p .stream) bytes
-running (finish d o r o′ x f) = finished-running (running x) (r .answer) (r .stream) _ _ (f .effect) (λ e. e .0) (λ e. e .0)
+running (finish d o r o′ x f) =
+    finished-running (running x) (r .answer) (r .stream) _ _ (f .effect) (λ e. e .0) (λ e. e .0)
+
+pub held-counted : {u : ℕ → ℕ} {h : ℕ} {t : Stream} → Reached u h t → t .held ≡ h
+held-counted x = running x .held
 
 -- the bits u, as far as they are held, are the payload's, then zeros
 held-padded : {u : ℕ → ℕ} {h : ℕ} {t : Stream} → Running u h t → (v : List ℕ) → ((n : ℕ) → n < h → bit v n ≡ u n)
@@ -101,7 +107,8 @@ held-padded {u} {h} r v same n =
     (λ l. sym (r .after n (omega (arith, r .most))))
 
 -- two cuttings: u and v are the bits accepted, h of them each, and equal
-module _ {u v : ℕ → ℕ} {h : ℕ} {s t : Stream} (x : Reached u h s) (y : Reached v h t) (same : (n : ℕ) → n < h → u n ≡ v n) where
+module _ {u v : ℕ → ℕ} {h : ℕ} {s t : Stream} (x : Reached u h s) (y : Reached v h t)
+    (same : (n : ℕ) → n < h → u n ≡ v n) where
   same-bits : (n : ℕ) → u n ≡ v n
   same-bits n = elim (decLt n h) [
     | yes l ↦ same n l
@@ -119,16 +126,19 @@ module _ {u v : ℕ → ℕ} {h : ℕ} {s t : Stream} (x : Reached u h s) (y : R
       ∙ check-same fibre n u v (λ m k. same-bits m)
       ∙ sym (q .checks n (omega (arith, r .long)))))
 
-  pub no-cut-told : (d : ℕ) (o : List ℕ) (r r′ : Step) (o′ o″ : List ℕ) → Bytes o′ → Bytes o″ → Finished d s o r o′ → Finished d t o r′ o″
+  pub no-cut-told : (d : ℕ) (o : List ℕ) (r r′ : Step) (o′ o″ : List ℕ) → Bytes o′ → Bytes o″ → Finished d s o r o′
+      → Finished d t o r′ o″
       → (r ≡ r′) × (o′ ≡ o″)
-  no-cut-told d o r r′ o′ o″ b b′ f g = finish-same d t o r r′ o′ o″ b b′ (subst (λ (z : Stream). Finished d z o r o′) cut-alike f) g
+  no-cut-told d o r r′ o′ o″ b b′ f g =
+      finish-same d t o r r′ o′ o″ b b′ (subst (λ (z : Stream). Finished d z o r o′) cut-alike f) g
 
 -- what a done operation leaves
 done-part : (a : Answer) (A B : Type 0) → a ≡ Done → by a A B → A
 done-part a A B e x = subst (λ (a : Answer). by a A B) e x
 
 -- v is the whole payload, as encode is given it, and l′ what encode wrote of it to l; o′ is what the finish wrote to o
-pub finish-encodes : {u : ℕ → ℕ} {h : ℕ} {t : Stream} (d : ℕ) (o : List ℕ) (r : Step) (o′ v l l′ : List ℕ) → Reached u h t
+pub finish-encodes : {u : ℕ → ℕ} {h : ℕ} {t : Stream} (d : ℕ) (o : List ℕ) (r : Step) (o′ v l l′ : List ℕ)
+    → Reached u h t
     → ((n : ℕ) → n < h → bit v n ≡ u n) → r .answer ≡ Done → Finished d t o r o′ → Encoded h v d l Done l′
     → (n : ℕ) → n < 2570 → bit o′ n ≡ bit l′ (h + n)
 finish-encodes {u} {h} {t} d o r o′ v l l′ x same e f w n k =
@@ -136,8 +146,11 @@ finish-encodes {u} {h} {t} d o r o′ v l l′ x same e f w n k =
     let q = done-part (r .answer) _ _ e (f .effect) in
     let p = w .line in
     let are : (m : ℕ) → m < 3072 → bit (t .checks) m ≡ check fibre m (run 14592 (padded h (bit v)) zeros) =
-    λ m j. run-u .checks m j ∙ check-same fibre m u (run 14592 (padded h (bit v)) zeros) (λ i z. sym (held-padded run-u v same i)) in
-    let same-parity = own-bits-one (t .checks) (q .1) (p .0) (q .2) (payload-own (padded h (bit v)) (t .checks) (p .0) are (p .1)) in
+    λ m j.
+    run-u .checks m j
+    ∙ check-same fibre m u (run 14592 (padded h (bit v)) zeros) (λ i z. sym (held-padded run-u v same i)) in
+    let own = payload-own (padded h (bit v)) (t .checks) (p .0) are (p .1) in
+    let same-parity = own-bits-one (t .checks) (q .1) (p .0) (q .2) own in
     let back : h + n - h ≡ n = omega arith in
     q .3 .bits n (omega arith)
     ∙ run-low 2570 (tail (q .1) d) zeros n k
@@ -149,7 +162,8 @@ finish-encodes {u} {h} {t} d o r o′ v l l′ x same e f w n k =
     ∙ rw back)
 
 -- a finish that is done leaves a fresh stream, and a finish of a fresh stream is refused by 1
-pub fresh-again : (d : ℕ) (t : Stream) (o : List ℕ) (r : Step) (o′ : List ℕ) → r .answer ≡ Done → Finished d t o r o′ → r .stream ≡ fresh
+pub fresh-again : (d : ℕ) (t : Stream) (o : List ℕ) (r : Step) (o′ : List ℕ) → r .answer ≡ Done → Finished d t o r o′
+    → r .stream ≡ fresh
 fresh-again d t o r o′ e f = done-part (r .answer) _ _ e (f .effect) .0
 
 pub second-refused : (d : ℕ) (o : List ℕ) (r : Step) (o′ : List ℕ) → Finished d fresh o r o′ → number (r .answer) ≡ 1

@@ -1,7 +1,8 @@
 -- Demand 2, and paper 01, 'Verdicts': which full words and which line words are accepted.
 --
 --   GoodWord K w      w is a full word with a payload of K bits: its shortened places are 0 and every check holds
---   GoodLine K l d    l is a line word with a payload of K bits: some 512 punctured bits complete it, and its delimiter is d
+--   GoodLine K l d    l is a line word with a payload of K bits: some 512 punctured bits complete it, and its
+--                     delimiter is d
 --
 -- Believe this file beside the paper. FullWords and Lines prove that these and no others are accepted.
 use mathlib.Core.Path.{_≡_}

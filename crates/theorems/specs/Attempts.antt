@@ -1,9 +1,10 @@
--- Demand 3: a stream that was reached from a fresh one by any attempts, the bits that it accepted, and its running checks.
+-- Demand 3: a stream that was reached from a fresh one by any attempts, the bits that it accepted, and its running
+-- checks.
 --
 --   chosen a x y      x where the answer a is Done, y where it is a refusal
---   Reached u h t     the stream t was reached from a fresh one, by any pieces and finishes, accepted or refused; h is how many
---                     bits it accepted since it was last fresh, and u is these bits, followed by zeros
---   Running u h t     what demand 3 says of such a stream: it holds h bits, and its running checks are those of the bits u
+--   Reached u h t     the stream t was reached from a fresh one, by any pieces and finishes, accepted or refused; h is
+--                     how many bits it accepted since it was last fresh, and u is these bits, followed by zeros
+--   Running u h t     what demand 3 says of such a stream: it holds h bits, and its running checks are those of u
 --
 -- Believe this file beside the paper. Streams proves that a stream that was reached is running.
 use mathlib.Core.Path.{_≡_}
@@ -27,9 +28,11 @@ chosen (Refused n) x y = y
 
 pub data Reached : (ℕ → ℕ) → ℕ → Stream → Type 0 where
   begun : Reached zeros 0 fresh
-  piece : {u : ℕ → ℕ} {h : ℕ} {t : Stream} (b : ℕ) (s : List ℕ) (r : Step) → Reached u h t → PieceTaken b s t r → Bytes (r .stream .checks)
+  piece : {u : ℕ → ℕ} {h : ℕ} {t : Stream} (b : ℕ) (s : List ℕ) (r : Step) → Reached u h t → PieceTaken b s t r
+      → Bytes (r .stream .checks)
       → Reached (chosen (r .answer) (run h u (run b (bit s) zeros)) u) (chosen (r .answer) (h + b) h) (r .stream)
-  finish : {u : ℕ → ℕ} {h : ℕ} {t : Stream} (d : ℕ) (o : List ℕ) (r : Step) (o′ : List ℕ) → Reached u h t → Finished d t o r o′
+  finish : {u : ℕ → ℕ} {h : ℕ} {t : Stream} (d : ℕ) (o : List ℕ) (r : Step) (o′ : List ℕ) → Reached u h t
+      → Finished d t o r o′
       → Reached (chosen (r .answer) zeros u) (chosen (r .answer) 0 h) (r .stream)
 
 pub record Running (u : ℕ → ℕ) (h : ℕ) (t : Stream) : Type 0 where

@@ -14,4 +14,5 @@ first-blocks w e n =
     let all : e - 0 ≡ e = omega arith in
     ap (λ (m : ℕ). run 0 zeros (run (256 * m) (λ t. bit w (0 + t)) zeros) n) all
     ∙ run-none zeros (run (256 * e) (λ t. bit w (0 + t)) zeros) n
-    ∙ run-same (256 * e) (λ t. bit w (0 + t)) zeros (bit w) zeros (λ t h. let z : 0 + t ≡ t = omega arith in rw z) (λ t. refl) n
+    ∙ run-same (256 * e) (λ t. bit w (0 + t)) zeros (bit w) zeros
+    (λ t h. let z : 0 + t ≡ t = omega arith in rw z) (λ t. refl) n

@@ -35,10 +35,12 @@ module _ {w : List ℕ} {K p : ℕ} (f : FirstSet w K 14592 p) where
   shortened-nowhere h n s = omega (arith, f .clear n (s .0) (omega arith), s .2)
 
 -- m is the ones of the running checks s, which all blocks of the word w were added to
-module _ (w s : List ℕ) (m : ℕ) (a : Added (blocks w 0 69) (replicate 384 0) s) (o : m ≡ total (8 * length s) (bit s)) where
+module _ (w s : List ℕ) (m : ℕ) (a : Added (blocks w 0 69) (replicate 384 0) s)
+    (o : m ≡ total (8 * length s) (bit s)) where
   running-bit : (n : ℕ) → n < 3072 → bit s n ≡ check fibre n (bit w)
   running-bit n h =
-      let whole = check-same fibre n (blocks w 0 69) (bit w) (λ p l. first-blocks w 69 p ∙ run-low 17664 (bit w) zeros p l) in
+      let whole =
+      check-same fibre n (blocks w 0 69) (bit w) (λ p l. first-blocks w 69 p ∙ run-low 17664 (bit w) zeros p l) in
       omega (arith, a .each n h, bit-zeros 384 n, whole, check-below fibre n (bit w))
 
   pub failing-counted : m ≡ howMany 3072 (rowFails (bit w))
@@ -46,13 +48,19 @@ module _ (w s : List ℕ) (m : ℕ) (a : Added (blocks w 0 69) (replicate 384 0)
       let long : 8 * length s ≡ 3072 = omega (arith, a .length-same, length-replicate {A = ℕ} 384 0) in
       o
       ∙ ap (λ (n : ℕ). total n (bit s)) long
-      ∙ total-same 3072 (bit s) _ (λ n h. running-bit n h ∙ sym (number-bit (check fibre n (bit w)) (check-below fibre n (bit w))))
+      ∙ total-same 3072 (bit s) _
+      (λ n h. running-bit n h ∙ sym (number-bit (check fibre n (bit w)) (check-below fibre n (bit w))))
 
   pub failing-none : m ≡ 0 → Nowhere (Fails (bit w))
-  failing-none e n f = omega (arith, failing-counted, howMany-some 3072 (rowFails (bit w)) n (f .0) (ap (λ (x : ℕ). eqb x 1) (f .1)))
+  failing-none e n f =
+      let one = howMany-some 3072 (rowFails (bit w)) n (f .0) (ap (λ (x : ℕ). eqb x 1) (f .1)) in
+      omega (arith, failing-counted, one)
 
   pub failing-lowest : (m ≡ 0 → ⊥) → {r : ℕ} → Scanned (bit w) r → Lowest (Fails (bit w)) r
   failing-lowest d {r} c = elim (decLt r 3072) [
     | yes h ↦ ((h, c .fails h), λ n l f. omega (arith, c .hold n l, f .1))
-    | no h ↦ absurd (d (failing-counted ∙ howMany-none 3072 (rowFails (bit w)) (λ n l. ap (λ (x : ℕ). eqb x 1) (c .hold n (omega arith)))))
+    | no h ↦
+        let none =
+        howMany-none 3072 (rowFails (bit w)) (λ n l. ap (λ (x : ℕ). eqb x 1) (c .hold n (omega arith))) in
+        absurd (d (failing-counted ∙ none))
   ]

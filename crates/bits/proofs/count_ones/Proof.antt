@@ -31,7 +31,8 @@ add-count : tie.Need-add-count Inv-loop μ-loop
 add-count c =
     let l = c .before .before .before in
     let s = l .before .before .args .s .now in
-    let more = ones-more s (l .loop .i) (l .loop .count) (l .loop .inv .2) (c .before .shared-slice-known2 .given (l .loop .i) .fits) in
+    let byte = c .before .shared-slice-known2 .given (l .loop .i) .fits in
+    let more = ones-more s (l .loop .i) (l .loop .count) (l .loop .inv .2) byte in
     omega (arith, more, c .ones-in .ensures, ones-below s (l .loop .i + 1), l .before .before .pre)
 
 add-i : tie.Need-add-i Inv-loop μ-loop
@@ -44,7 +45,8 @@ loop-again : tie.Need-loop-again Inv-loop μ-loop
 loop-again c =
     let l = c .before .before .before in
     let s = l .before .before .args .s .now in
-    let more = ones-more s (l .loop .i) (l .loop .count) (l .loop .inv .2) (c .before .shared-slice-known2 .given (l .loop .i) .fits) in
+    let byte = c .before .shared-slice-known2 .given (l .loop .i) .fits in
+    let more = ones-more s (l .loop .i) (l .loop .count) (l .loop .inv .2) byte in
     (search needs, search needs, rw (c .ones-in .ensures) more)
 
 returns : tie.Need-returns Inv-loop μ-loop

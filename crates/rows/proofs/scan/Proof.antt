@@ -35,7 +35,8 @@ low : (w : List ℕ) (row j : ℕ) → term fibre row (bit w) j < 2
 low w row j = term-below fibre (lit< tt) row (bit w) j (bit< w)
 
 -- all 69 terms are summed
-summed : (w : List ℕ) (row ones j : ℕ) → ones ≡ total j (term fibre row (bit w)) → j ≡ 69 → check fibre row (bit w) ≡ ones % 2
+summed : (w : List ℕ) (row ones j : ℕ) → ones ≡ total j (term fibre row (bit w)) → j ≡ 69
+    → check fibre row (bit w) ≡ ones % 2
 summed w row ones j e h =
     check-columns fibre (lit< tt) row (bit w)
     ∙ ap (λ (s : ℕ). s % 2) (sym (e ∙ ap (λ (j : ℕ). total j (term fibre row (bit w))) h))

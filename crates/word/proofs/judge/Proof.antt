@@ -28,9 +28,10 @@ returns-2 c =
     let counted = c .before in
     let added = counted .before .before .before in
     let clear = added .before .before in
-    let w = clear .before .before .before .args .word .now in (
+    let w = clear .before .before .before .args .word .now in
+    let ones = counted .count-ones in (
       shortened-nowhere (clear .before .first-set .ensures) (clear .if1 .left),
-      failing-none w _ (counted .count-ones .result) (added .add-blocks .ensures) (counted .count-ones .ensures) (c .if2 .taken),
+      failing-none w _ (ones .result) (added .add-blocks .ensures) (ones .ensures) (c .if2 .taken),
     )
 
 lowest-failing-requires : tie.Need-lowest-failing-requires
@@ -42,10 +43,11 @@ returns-3 c =
     let added = counted .before .before .before in
     let clear = added .before .before in
     let w = clear .before .before .before .args .word .now in
-    let m = counted .count-ones .result in (
+    let ones = counted .count-ones in
+    let a = added .add-blocks .ensures in (
       shortened-nowhere (clear .before .first-set .ensures) (clear .if1 .left),
-      failing-lowest w _ m (added .add-blocks .ensures) (counted .count-ones .ensures) (λ e. omega arith) (c .lowest-failing .ensures),
-      failing-counted w _ m (added .add-blocks .ensures) (counted .count-ones .ensures),
+      failing-lowest w _ (ones .result) a (ones .ensures) (λ e. omega arith) (c .lowest-failing .ensures),
+      failing-counted w _ (ones .result) a (ones .ensures),
     )
 
 pub judge-spec : {M : Type 1} → statement M
