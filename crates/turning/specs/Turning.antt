@@ -2,7 +2,7 @@
 --
 --   turned z b a r   bit r of the block b of z bits, turned by a: local row r has its one at local column (r + a) mod z
 --
--- Believe this file beside the paper; nothing here is proved.
+-- Nothing here is proved.
 use mathlib.Core.List.{List}
 use Prim.Native.Nat.{ℕ, _+_, _%_}
 use Rattle.rules.specs.Bits.{bit}
