@@ -1,5 +1,5 @@
-// The running checks: the one way in which payload bits reach them. Each block that holds such bits is added, turned,
-// once for each entry of its line of the table.
+// The running checks: the one way in which bits reach them. Each block that holds such bits is added, turned, once for
+// each entry of its line of the table.
 // Its functions serve the crates above, which show what they require; no user calls them.
 ghost use mathlib.Core.Path.{_≡_};
 ghost use mathlib.Core.List.{[]};
