@@ -33,23 +33,22 @@ use Rattle.theorems.proofs.Same.{word-check-same}
 use Rattle.theorems.proofs.Refusing.{free-told}
 use Rattle.theorems.proofs.Asked.{complete-exactly, word-free, word-exactly}
 
-module _ (K : ℕ) (w : List ℕ) where
-  -- a bit that is not 1, and a check that is not, is 0
-  not-one : (b : ℕ) → b < 2 → (b ≡ 1 → ⊥) → b ≡ 0
-  not-one b h d = omega arith
+-- a bit that is not 1, and a check that is not, is 0
+not-one : (b : ℕ) → b < 2 → (b ≡ 1 → ⊥) → b ≡ 0
+not-one b h d = omega arith
 
+module _ (K : ℕ) (w : List ℕ) where
   unset : Nowhere (ShortenedSet K (bit w)) → (n : ℕ) → K ≤ n → n < 14592 → bit w n ≡ 0
   unset none n a b = not-one (bit w n) (bit< w n) (λ e. none n (a, b, e))
 
   accepted-good : WordChecked K w (Judged Accepted) → GoodWord K w
-  accepted-good x =
-      record {
-        asked = word-exactly K w (Judged Accepted) x .0 (Accepted, refl);
-        shortened = unset (x .verdict .0);
-        all-hold = λ n h. not-one (check fibre n (bit w)) (check-below fibre n (bit w)) (λ e. x .verdict .1 n (h, e));
-      }
+  accepted-good x = record {
+    asked = word-exactly K w (Judged Accepted) x .0 (Accepted, refl);
+    shortened = unset (x .verdict .0);
+    all-hold = λ n h. not-one (check fibre n (bit w)) (check-below fibre n (bit w)) (λ e. x .verdict .1 n (h, e));
+  }
 
-  pub good-accepted : GoodWord K w → WordChecked K w (Judged Accepted)
+  good-accepted : GoodWord K w → WordChecked K w (Judged Accepted)
   good-accepted g = record {
     told = free-told (wordOrder K w) (word-free K w .1 (g .asked));
     verdict = (
