@@ -54,7 +54,7 @@ abbrev pub JudgementFits : Judgement → Type 0
 JudgementFits (Judged v) = VerdictFits v
 JudgementFits (Refused n) = (0 < n) × (n < 2 ^ 16)
 
--- the cause numbered c, with a count m and a place n
+-- the cause numbered c, 1 to 4, with a count m and a place n
 abbrev pub readCause : ℕ → ℕ → ℕ → Cause
 readCause c m n =
     cond (eqb c 1) (Shortened n) (cond (eqb c 2) (Check n m) (cond (eqb c 3) (Parity n) (Delimiter n)))

@@ -94,7 +94,9 @@ module _ (K : ℕ) (w w′ : List ℕ) (c : Completed K w Done w′) where
 
   payload : (n : ℕ) → n < 14592 → bit w′ n ≡ bit w n
   payload n h =
-      ap (λ (v : List ℕ). bit v n) (c .word .2) ∙ bit-front (take 1824 w) p n (omega (arith, front-length)) ∙ bit-take w 1824 n (omega arith)
+      ap (λ (v : List ℕ). bit v n) (c .word .2)
+      ∙ bit-front (take 1824 w) p n (omega (arith, front-length))
+      ∙ bit-take w 1824 n (omega arith)
 
   whole : (n : ℕ) → bit w′ n ≡ fullWord (bit w) p n
   whole n = elim (decLt n 14592) [

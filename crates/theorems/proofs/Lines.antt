@@ -52,7 +52,9 @@ module _ (K : ℕ) (l : List ℕ) (d : ℕ) where
     drop 320 (v .0),
     record {
       bytes = simp length-drop (omega (arith, v .1 .bytes));
-      all-hold = λ n h. check-same fibre n (completed K l (drop 320 (v .0))) (fullWord (padded K (bit l)) (v .0)) (λ m k. word m) ∙ v .1 .all-hold n h;
+      all-hold = λ n h.
+          check-same fibre n (completed K l (drop 320 (v .0))) (fullWord (padded K (bit l)) (v .0)) (λ m k. word m)
+          ∙ v .1 .all-hold n h;
       delimiter = λ n h. alike _ _ (λ x. v .2 .1 n (h, x));
     },
   )
@@ -69,7 +71,11 @@ module _ (K : ℕ) (l : List ℕ) (d : ℕ) where
       word = run-same 14592 (padded K (bit l)) _ (padded K (bit l)) (bit (v .0)) (λ n h. refl) parity
 
   completed-accepted : (q : List ℕ) → Completes K l d q → LineVerdict K l d Accepted
-  completed-accepted q c = (p, record { bytes = length-pack 384 f; all-hold = holds }, (λ n x. x .1 (same n (x .0)), λ n x. x .1 (c .delimiter n (x .0))))
+  completed-accepted q c = (
+    p,
+    record { bytes = length-pack 384 f; all-hold = holds },
+    (λ n x. x .1 (same n (x .0)), λ n x. x .1 (c .delimiter n (x .0))),
+  )
     where
       f : ℕ → ℕ
       f = run 2560 (λ n. bit l (K + n)) (bit q)
@@ -89,7 +95,8 @@ module _ (K : ℕ) (l : List ℕ) (d : ℕ) where
 
       word : (m : ℕ) → m < 17664 → fullWord (padded K (bit l)) p m ≡ completed K l q m
       word m k =
-          run-each 14592 (padded K (bit l)) (bit p) m (λ b. b ≡ completed K l q m) (λ h. sym (run-low 14592 (padded K (bit l)) f m h)) (parity m k)
+          run-each 14592 (padded K (bit l)) (bit p) m (λ b. b ≡ completed K l q m)
+          (λ h. sym (run-low 14592 (padded K (bit l)) f m h)) (parity m k)
 
       holds : AllHold fibre (fullWord (padded K (bit l)) p)
       holds n h = check-same fibre n (fullWord (padded K (bit l)) p) (completed K l q) word ∙ c .all-hold n h
@@ -131,7 +138,9 @@ module _ (K : ℕ) (u : List ℕ) (d : ℕ) (o o′ : List ℕ) (e : Encoded K u
 
   payload-bit : (n : ℕ) → n < K → bit l n ≡ bit u n
   payload-bit n h =
-      line-bit n (omega arith) ∙ run-low (K + 2570) (lineWord K (bit u) p d) zeros n (omega arith) ∙ run-low K (bit u) (tail p d) n h
+      line-bit n (omega arith)
+      ∙ run-low (K + 2570) (lineWord K (bit u) p d) zeros n (omega arith)
+      ∙ run-low K (bit u) (tail p d) n h
 
   tail-bit : (n : ℕ) → n < 2570 → bit l (K + n) ≡ tail p d n
   tail-bit n h =
@@ -154,13 +163,17 @@ module _ (K : ℕ) (u : List ℕ) (d : ℕ) (o o′ : List ℕ) (e : Encoded K u
     parity,
     (
       λ n x. x .1 (tail-bit n (omega (arith, x .0)) ∙ tail-low p d n (x .0)),
-      λ n x. let at : K + 2560 + n ≡ K + (2560 + n) = omega arith in x .1 (rw at (tail-bit (2560 + n) (omega (arith, x .0)) ∙ tail-high p d n (x .0))),
+      λ n x.
+          let at : K + 2560 + n ≡ K + (2560 + n) = omega arith in
+          x .1 (rw at (tail-bit (2560 + n) (omega (arith, x .0)) ∙ tail-high p d n (x .0))),
     ),
   )
 
   unused : UnusedSet l (K + 2570) → ⊥
   unused s = elim (decLt (s .0) (8 * length l)) [
-    | yes h ↦ omega (arith, line-bit (s .0) (omega (arith, line-length)) ∙ run-high (K + 2570) (lineWord K (bit u) p d) zeros (s .0) (s .1), s .2)
+    | yes h ↦
+        let zero = run-high (K + 2570) (lineWord K (bit u) p d) zeros (s .0) (s .1) in
+        omega (arith, line-bit (s .0) (omega (arith, line-length)) ∙ zero, s .2)
     | no h ↦ omega (arith, bit-past l (s .0) (omega arith), s .2)
   ]
 
@@ -187,7 +200,8 @@ module _ (K : ℕ) (u : List ℕ) (d : ℕ) (o o′ : List ℕ) (e : Encoded K u
       }
 
   -- a line word k with the same payload, that the line check accepts, is the one that encode wrote
-  module _ (k : List ℕ) (bytes : Bytes k) (bytes′ : Bytes o′) (same : (n : ℕ) → n < K → bit k n ≡ bit u n) (c : LineChecked K k d (Judged Accepted)) where
+  module _ (k : List ℕ) (bytes : Bytes k) (bytes′ : Bytes o′) (same : (n : ℕ) → n < K → bit k n ≡ bit u n)
+      (c : LineChecked K k d (Judged Accepted)) where
     abbrev q : List ℕ
     q = c .verdict .0
 
@@ -216,8 +230,13 @@ module _ (K : ℕ) (u : List ℕ) (d : ℕ) (o o′ : List ℕ) (e : Encoded K u
     each n h = elim (decLt n K) [
       | yes i ↦ payload-bit n i ∙ sym (same n i)
       | no i ↦ elim (decLt n (K + 2570)) [
-        | yes j ↦ let at : K + (n - K) ≡ n = omega arith in rw at at (tail-bit (n - K) (omega arith) ∙ sym (accepted-tail (n - K) (omega arith)))
-        | no j ↦ line-bit n h ∙ run-high (K + 2570) (lineWord K (bit u) p d) zeros n (omega arith) ∙ sym (clear n (omega arith))
+        | yes j ↦
+            let at : K + (n - K) ≡ n = omega arith in
+            rw at at (tail-bit (n - K) (omega arith) ∙ sym (accepted-tail (n - K) (omega arith)))
+        | no j ↦
+            line-bit n h
+            ∙ run-high (K + 2570) (lineWord K (bit u) p d) zeros n (omega arith)
+            ∙ sym (clear n (omega arith))
       ]
     ]
       where

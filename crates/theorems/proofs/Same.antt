@@ -35,7 +35,8 @@ bytes-back s t h i = rw getD-append-add at (h (length s + i))
 pub complete-same : (K : ℕ) (w : List ℕ) (a b : Answer) (w′ w″ : List ℕ) → Bytes w′ → Bytes w″
     → Completed K w a w′ → Completed K w b w″ → (a ≡ b) × (w′ ≡ w″)
 complete-same K w a b w′ w″ h k x y =
-    outcome-same Bytes (λ v. (p : List ℕ) × Parity (bit w) p × (v ≡ take 1824 w ++ p)) (λ v. v ≡ w) done (λ o o′ e f. e ∙ sym f) a b w′ w″
+    outcome-same Bytes (λ v. (p : List ℕ) × Parity (bit w) p × (v ≡ take 1824 w ++ p)) (λ v. v ≡ w) done
+    (λ o o′ e f. e ∙ sym f) a b w′ w″
     (told-single (completeOrder K w) (number a) (number b) (x .told) (y .told)) h k (x .word) (y .word)
   where
     done : (o o′ : List ℕ) → Bytes o → Bytes o′ → (p : List ℕ) × Parity (bit w) p × (o ≡ take 1824 w ++ p)
@@ -49,10 +50,12 @@ complete-same K w a b w′ w″ h k x y =
 
 pub word-check-same : (K : ℕ) (w : List ℕ) (j j′ : Judgement) → WordChecked K w j → WordChecked K w j′ → j ≡ j′
 word-check-same K w j j′ x y =
-    judgement-same (WordVerdict K (bit w)) (word-same K (bit w)) j j′ (told-single (wordOrder K w) (refusal j) (refusal j′) (x .told) (y .told)) (x .verdict) (y .verdict)
+    judgement-same (WordVerdict K (bit w)) (word-same K (bit w)) j j′
+    (told-single (wordOrder K w) (refusal j) (refusal j′) (x .told) (y .told)) (x .verdict) (y .verdict)
 
 -- what is written is single, where the bits to write are
-written-same : (b : ℕ) (x y : ℕ → ℕ) (s t u : List ℕ) → Bytes t → Bytes u → ((n : ℕ) → n < b → x n ≡ y n) → Written b x s t → Written b y s u → t ≡ u
+written-same : (b : ℕ) (x y : ℕ → ℕ) (s t u : List ℕ) → Bytes t → Bytes u → ((n : ℕ) → n < b → x n ≡ y n)
+    → Written b x s t → Written b y s u → t ≡ u
 written-same b x y s t u bt bu e p q = bits-same t u bt bu (p .length-same ∙ sym (q .length-same)) (λ n h. at n)
   where
     at : (n : ℕ) → bit t n ≡ bit u n
@@ -61,7 +64,8 @@ written-same b x y s t u bt bu e p q = bits-same t u bt bu (p .length-same ∙ s
       | no l ↦
           let m : ℕ = n - 8 * need b in
           let f : 8 * need b + m ≡ n = omega arith in
-          rw (← f) (sym (bit-drop t (need b) m) ∙ ap (λ (v : List ℕ). bit v m) (p .after ∙ sym (q .after)) ∙ bit-drop u (need b) m)
+          let after = ap (λ (v : List ℕ). bit v m) (p .after ∙ sym (q .after)) in
+          rw (← f) (sym (bit-drop t (need b) m) ∙ after ∙ bit-drop u (need b) m)
     ]
 
 pub tail-bits : (p q : List ℕ) (d : ℕ) → ((n : ℕ) → n < 3072 → bit p n ≡ bit q n) → (n : ℕ) → tail p d n ≡ tail q d n
@@ -79,11 +83,14 @@ encode-same K u d o a b o′ o″ h k x y =
     done : (v v′ : List ℕ) → Bytes v → Bytes v′ → Line v → Line v′ → v ≡ v′
     done v v′ g g′ p q =
         written-same (lineBits K) (lineWord K (bit u) (p .0) d) (lineWord K (bit u) (q .0) d) o v v′ g g′
-        (λ n l. run-same K (bit u) (tail (p .0) d) (bit u) (tail (q .0) d) (λ k m. refl) (tail-bits (p .0) (q .0) d (parity-bits-one (padded K (bit u)) (p .0) (q .0) (p .1) (q .1))) n)
+        (λ n l.
+        run-same K (bit u) (tail (p .0) d) (bit u) (tail (q .0) d) (λ k m. refl)
+        (tail-bits (p .0) (q .0) d (parity-bits-one (padded K (bit u)) (p .0) (q .0) (p .1) (q .1))) n)
         (p .2) (q .2)
 
 -- a verdict beside one parity is the verdict beside another with the same bits
-tail-verdict : (K : ℕ) (l : List ℕ) (d : ℕ) (p q : List ℕ) → ((n : ℕ) → n < 3072 → bit p n ≡ bit q n) → (v : Verdict) → TailVerdict K l d p v → TailVerdict K l d q v
+tail-verdict : (K : ℕ) (l : List ℕ) (d : ℕ) (p q : List ℕ) → ((n : ℕ) → n < 3072 → bit p n ≡ bit q n) → (v : Verdict)
+    → TailVerdict K l d p v → TailVerdict K l d q v
 tail-verdict K l d p q e v h = over v h
   where
     there : (n : ℕ) → ParityDiffers K l p n → ParityDiffers K l q n
@@ -101,11 +108,14 @@ tail-verdict K l d p q e v h = over v h
 
 line-same : (K : ℕ) (l : List ℕ) (d : ℕ) (v v′ : Verdict) → LineVerdict K l d v → LineVerdict K l d v′ → v ≡ v′
 line-same K l d v v′ x y =
-    tail-same K l d (y .0) v v′ (tail-verdict K l d (x .0) (y .0) (parity-bits-one (padded K (bit l)) (x .0) (y .0) (x .1) (y .1)) v (x .2)) (y .2)
+    let same = parity-bits-one (padded K (bit l)) (x .0) (y .0) (x .1) (y .1) in
+    tail-same K l d (y .0) v v′ (tail-verdict K l d (x .0) (y .0) same v (x .2)) (y .2)
 
-pub line-check-same : (K : ℕ) (l : List ℕ) (d : ℕ) (j j′ : Judgement) → LineChecked K l d j → LineChecked K l d j′ → j ≡ j′
+pub line-check-same : (K : ℕ) (l : List ℕ) (d : ℕ) (j j′ : Judgement) → LineChecked K l d j → LineChecked K l d j′
+    → j ≡ j′
 line-check-same K l d j j′ x y =
-    judgement-same (LineVerdict K l d) (line-same K l d) j j′ (told-single (lineOrder K l d) (refusal j) (refusal j′) (x .told) (y .told)) (x .verdict) (y .verdict)
+    judgement-same (LineVerdict K l d) (line-same K l d) j j′
+    (told-single (lineOrder K l d) (refusal j) (refusal j′) (x .told) (y .told)) (x .verdict) (y .verdict)
 
 -- a stream is its count and its running checks; a step is its answer and its stream
 pub stream-of : {s t : Stream} → s .held ≡ t .held → s .checks ≡ t .checks → s ≡ t
@@ -114,17 +124,20 @@ stream-of h c = ap₂ (λ (n : ℕ) (l : List ℕ). record { held = n; checks = 
 step-of : {r s : Step} → (r .answer ≡ s .answer) × (r .stream ≡ s .stream) → r ≡ s
 step-of e = ap₂ (λ (a : Answer) (t : Stream). record { answer = a; stream = t }) (e .0) (e .1)
 
-pub piece-same : (b : ℕ) (s : List ℕ) (t : Stream) (r r′ : Step) → length (t .checks) ≡ 384 → Bytes (r .stream .checks) → Bytes (r′ .stream .checks)
+pub piece-same : (b : ℕ) (s : List ℕ) (t : Stream) (r r′ : Step) → length (t .checks) ≡ 384 → Bytes (r .stream .checks)
+    → Bytes (r′ .stream .checks)
     → PieceTaken b s t r → PieceTaken b s t r′ → r ≡ r′
 piece-same b s t r r′ l h k x y =
     step-of
     (outcome-same (λ (v : Stream). Bytes (v .checks)) (λ v. Fed b s t v) (λ v. v ≡ t) done (λ v v′ e f. e ∙ sym f)
     (r .answer) (r′ .answer) (r .stream) (r′ .stream)
-    (told-single (pieceOrder (t .held) b s) (number (r .answer)) (number (r′ .answer)) (x .told) (y .told)) h k (x .stream) (y .stream))
+    (told-single (pieceOrder (t .held) b s) (number (r .answer)) (number (r′ .answer)) (x .told) (y .told)) h k
+    (x .stream) (y .stream))
   where
     done : (v v′ : Stream) → Bytes (v .checks) → Bytes (v′ .checks) → Fed b s t v → Fed b s t v′ → v ≡ v′
     done v v′ g g′ p q =
-        stream-of (p .held ∙ sym (q .held)) (added-same _ (t .checks) (v .checks) (v′ .checks) l g g′ (p .checks) (q .checks))
+        stream-of (p .held ∙ sym (q .held))
+        (added-same _ (t .checks) (v .checks) (v′ .checks) l g g′ (p .checks) (q .checks))
 
 -- what a finish leaves: the stream, and the later output
 pub record Left : Type 0 where
@@ -133,7 +146,10 @@ pub record Left : Type 0 where
 
 pub finish-same : (d : ℕ) (t : Stream) (o : List ℕ) (r r′ : Step) (o′ o″ : List ℕ) → Bytes o′ → Bytes o″
     → Finished d t o r o′ → Finished d t o r′ o″ → (r ≡ r′) × (o′ ≡ o″)
-finish-same d t o r r′ o′ o″ h k x y = (step-of (both .0, ap (λ (v : Left). v .stream) (both .1)), ap (λ (v : Left). v .output) (both .1))
+finish-same d t o r r′ o′ o″ h k x y = (
+  step-of (both .0, ap (λ (v : Left). v .stream) (both .1)),
+  ap (λ (v : Left). v .output) (both .1),
+)
   where
     Finish : Left → Type 0
     Finish v = (v .stream ≡ fresh) × (p : List ℕ) × OwnChecks (t .checks) p × Written tailBits (tail p d) o (v .output)
@@ -152,6 +168,8 @@ finish-same d t o r r′ o′ o″ h k x y = (step-of (both .0, ap (λ (v : Left
 
     both : (r .answer ≡ r′ .answer) × (left (r .stream) o′ ≡ left (r′ .stream) o″)
     both =
-        outcome-same (λ (v : Left). Bytes (v .output)) Finish Kept done (λ v v′ e f. ap₂ left (e .0 ∙ sym (f .0)) (e .1 ∙ sym (f .1)))
+        outcome-same (λ (v : Left). Bytes (v .output)) Finish Kept done
+        (λ v v′ e f. ap₂ left (e .0 ∙ sym (f .0)) (e .1 ∙ sym (f .1)))
         (r .answer) (r′ .answer) (left (r .stream) o′) (left (r′ .stream) o″)
-        (told-single (finishOrder (t .held) d (length o)) (number (r .answer)) (number (r′ .answer)) (x .told) (y .told)) h k (x .effect) (y .effect)
+        (told-single (finishOrder (t .held) d (length o)) (number (r .answer)) (number (r′ .answer)) (x .told)
+        (y .told)) h k (x .effect) (y .effect)

@@ -58,7 +58,9 @@ joined : (h b : ℕ) (u x : ℕ → ℕ) → ((n : ℕ) → u n < 2) → ((n : �
 joined h b u x below after bits n =
     run-each h u (run b x zeros) n (λ v. (u n + placed h b x n) % 2 ≡ v)
     (λ l. rw (run-low h zeros (run b x zeros) n l) (omega (arith, below n)))
-    (λ l. rw (run-high h zeros (run b x zeros) n l, after n l) (omega (arith, run-below b x zeros (λ n l. bits n) (λ n. lit< tt) (n - h))))
+    (λ l.
+    rw (run-high h zeros (run b x zeros) n l, after n l)
+    (omega (arith, run-below b x zeros (λ n l. bits n) (λ n. lit< tt) (n - h))))
 
 module _ {u : ℕ → ℕ} {h : ℕ} {t : Stream} (r : Running u h t) where
   fed-running : {v : Stream} (b : ℕ) (s : List ℕ) → t .held + b ≤ 14392 → Fed b s t v → Bytes (v .checks)
@@ -167,4 +169,6 @@ pub fresh-again : (d : ℕ) (t : Stream) (o : List ℕ) (r : Step) (o′ : List 
 fresh-again d t o r o′ e f = done-part (r .answer) _ _ e (f .effect) .0
 
 pub second-refused : (d : ℕ) (o : List ℕ) (r : Step) (o′ : List ℕ) → Finished d fresh o r o′ → number (r .answer) ≡ 1
-second-refused d o r o′ f = ⊎-elim (λ a. absurd (omega (arith, a .0))) (λ a. ⊎-elim (λ b. b .1) (λ b. absurd (b .0 (inl refl))) (a .1)) (f .told)
+second-refused d o r o′ f =
+    ⊎-elim (λ a. absurd (omega (arith, a .0)))
+    (λ a. ⊎-elim (λ b. b .1) (λ b. absurd (b .0 (inl refl))) (a .1)) (f .told)

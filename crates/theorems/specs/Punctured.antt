@@ -1,6 +1,6 @@
 -- Paper 01, 'Verdicts': a line word that some 512 punctured bits complete.
 --
---   completed K l q      the full word of the line word l: its payload, zeros, its sent parity, and the punctured bits q
+--   completed K l q      the full word of the line word l: its payload, zeros, its sent parity, the punctured bits q
 --   Completes K l d q    q, 64 bytes, makes every check of that word hold, and l's delimiter is d
 --
 -- Believe this file beside the paper; nothing here is proved.
