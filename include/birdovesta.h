@@ -60,6 +60,39 @@
  * A refused call leaves every byte as it was. Where
  * several numbers fit, the first in the call's order is
  * given. The checks write nothing at all.
+ *
+ *
+ * Threads
+ *
+ * Any number of threads may make any of the calls at
+ * once. The archive has no variables, so no call knows
+ * of another. The only condition is the one that the
+ * caller answers for above: nobody else writes to the
+ * bytes that a call is lent. Several calls may read the
+ * same bytes.
+ *
+ *
+ * Stack
+ *
+ * A call takes at most so many bytes of stack:
+ *   BIRDOVESTA_ENCODE_STACK
+ *   BIRDOVESTA_CHECK_WORD_STACK
+ *   BIRDOVESTA_CHECK_LINE_STACK
+ * Measured for every K and every kind of answer, and
+ * rounded up. What is the host's own is not counted:
+ * - What memcpy and memset take.
+ * - What a dynamic linker takes, if it looks these two
+ *   up at their first call. That can be some thousands
+ *   of bytes. Linked statically, or with -z now, it's
+ *   nothing.
+ * - Signal handlers.
+ *
+ *
+ * What the archive needs
+ *
+ * Two functions of the C library, and nothing else:
+ * needs memcpy
+ * needs memset
  */
 #ifndef BIRDOVESTA_H
 #define BIRDOVESTA_H
@@ -81,6 +114,11 @@ enum birdovesta_cause {
 /* Bytes of a full word, and of the line word of K bits. */
 #define BIRDOVESTA_WORD_BYTES 2208
 #define BIRDOVESTA_LINE_BYTES(K) (((K) + 2570 + 7) / 8)
+
+/* Bytes of stack that each call takes at most. */
+#define BIRDOVESTA_ENCODE_STACK 8192
+#define BIRDOVESTA_CHECK_WORD_STACK 4096
+#define BIRDOVESTA_CHECK_LINE_STACK 8192
 
 /* The parts of an answer above 65,535. */
 #define BIRDOVESTA_CAUSE(answer) ((answer) >> 32)
