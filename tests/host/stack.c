@@ -1,0 +1,281 @@
+/* The stack that each call takes, against the three macros of
+ * include/birdovesta.h.
+ *
+ * A call is run on a stack of its own, every byte of which is
+ * set to one value before. The deepest byte that has changed
+ * tells what was taken; a call that does nothing is the zero.
+ * Every input is run with two values, as a call may write the
+ * very value that is there. Each call is made once before it
+ * is measured: where the C library is linked dynamically, its
+ * functions may be looked up at their first call.
+ *
+ * The inputs lead to every kind of answer, for each K. What
+ * must be answered is from paper 01, and is compared too.
+ *
+ * Prints one fact a line, of at most 40 characters, and ends
+ * with `N right, M wrong`. Exit status 1 if any is wrong.
+ */
+#define _XOPEN_SOURCE 700
+#include "birdovesta.h"
+
+#include <stdio.h>
+#include <string.h>
+#include <ucontext.h>
+
+enum {
+    STACK = 65536,
+    LEAST = 257, /* one data block: the least payload */
+    PAYLOAD_MOST = 14392,
+    PAYLOAD_PLACES = 14592,
+    PLACES = 17664,
+    SENT = 2560,
+    MOST = 2304 /* the most bytes lent */
+};
+
+static unsigned right, wrong;
+
+static void fact(int holds, const char *call, const char *text)
+{
+    printf("%s: %s%s\n", holds ? "right" : "wrong", call, text);
+    if (holds)
+        right++;
+    else
+        wrong++;
+}
+
+/* The calls, with what they are lent. */
+
+static uint8_t payload[MOST], word[MOST], line[MOST];
+static size_t bits, bytes, delimiter, room;
+static uint64_t answer;
+
+static void nothing(void)
+{
+    answer = 0;
+}
+
+static void encode(void)
+{
+    answer = birdovesta_encode(bits, payload, bytes, delimiter, line, room);
+}
+
+static void check_word(void)
+{
+    answer = birdovesta_check_word(bits, word, bytes);
+}
+
+static void check_line(void)
+{
+    answer = birdovesta_check_line(bits, line, bytes, delimiter);
+}
+
+/* Measuring */
+
+static _Alignas(64) uint8_t stack[STACK];
+static ucontext_t here, there;
+static void (*chosen)(void);
+
+static void start(void)
+{
+    chosen();
+}
+
+/* Makes the chosen call on the stack of its own. */
+static void on_stack(void)
+{
+    getcontext(&there);
+    there.uc_stack.ss_sp = stack;
+    there.uc_stack.ss_size = STACK;
+    there.uc_link = &here;
+    makecontext(&there, start, 0);
+    swapcontext(&here, &there);
+}
+
+/* How far down the stack is written to, from its top. */
+static size_t depth(void (*call)(void))
+{
+    static const int values[] = { 0xA5, 0x5A };
+    size_t deepest = 0;
+    for (size_t n = 0; n < sizeof values / sizeof *values; n++) {
+        memset(stack, values[n], STACK);
+        chosen = call;
+        on_stack();
+        size_t kept = 0;
+        while (kept < STACK && stack[kept] == values[n])
+            kept++;
+        if (STACK - kept > deepest)
+            deepest = STACK - kept;
+    }
+    return deepest;
+}
+
+struct measured {
+    const char *name;
+    void (*call)(void);
+    size_t told; /* by the header */
+    size_t taken;
+    unsigned inputs, others; /* others: not answered as meant */
+};
+
+static struct measured of_encode = { "encode", encode, BIRDOVESTA_ENCODE_STACK, 0, 0, 0 };
+static struct measured of_word = { "check_word", check_word, BIRDOVESTA_CHECK_WORD_STACK, 0, 0, 0 };
+static struct measured of_line = { "check_line", check_line, BIRDOVESTA_CHECK_LINE_STACK, 0, 0, 0 };
+
+/* A cause as it stands in an answer; count and place are left open. */
+static uint64_t cause(uint64_t number)
+{
+    return number << 32;
+}
+
+/* One input: its stack, and whether it's answered as meant. */
+static void input(struct measured *of, uint64_t meant)
+{
+    size_t zero = depth(nothing);
+    of->call();
+    size_t taken = depth(of->call) - zero;
+    if (taken > of->taken)
+        of->taken = taken;
+    of->inputs++;
+    of->others += (answer > 65535 ? cause(BIRDOVESTA_CAUSE(answer)) : answer) != meant;
+}
+
+/* Inputs */
+
+static void flip(uint8_t *lent, size_t place)
+{
+    lent[place / 8] ^= (uint8_t)(1u << place % 8);
+}
+
+/* Bytes that look random, the same at every run. */
+static void fill(uint8_t *lent, size_t count)
+{
+    static uint64_t state = 142;
+    for (size_t n = 0; n < count; n++) {
+        state = state * 6364136223846793005u + 1442695040888963407u;
+        lent[n] = (uint8_t)(state >> 56);
+    }
+}
+
+/* A payload of K bits: zeros, ones, or any. */
+static void put_payload(int kind)
+{
+    bytes = (bits + 7) / 8;
+    memset(payload, kind == 0 ? 0 : 255, sizeof payload);
+    if (kind == 2)
+        fill(payload, bytes);
+    for (size_t place = bits; place < 8 * bytes; place++)
+        payload[place / 8] &= (uint8_t)~(1u << place % 8);
+}
+
+static void encodings(void)
+{
+    for (int kind = 0; kind < 3; kind++) {
+        put_payload(kind);
+        delimiter = kind == 0 ? 0 : 1023;
+        room = BIRDOVESTA_LINE_BYTES(bits);
+        input(&of_encode, 0);
+        room = MOST;
+        input(&of_encode, 0);
+    }
+    room = BIRDOVESTA_LINE_BYTES(bits) - 1;
+    input(&of_encode, 5);
+    delimiter = 1024;
+    input(&of_encode, 4);
+    if (bits % 8 > 0) {
+        flip(payload, bits);
+        input(&of_encode, 3);
+    }
+    bytes++;
+    input(&of_encode, 2);
+    bits++;
+    input(&of_encode, bits > PAYLOAD_MOST ? 1 : 10);
+    bits--;
+}
+
+static void full_words(void)
+{
+    bytes = BIRDOVESTA_WORD_BYTES;
+    memset(word, 0, sizeof word);
+    input(&of_word, 0);
+    size_t spoilt[] = { 0, bits - 1, PAYLOAD_PLACES, PAYLOAD_PLACES + SENT, PLACES - 1 };
+    for (size_t n = 0; n < sizeof spoilt / sizeof *spoilt; n++) {
+        memset(word, 0, sizeof word);
+        flip(word, spoilt[n]);
+        input(&of_word, cause(BIRDOVESTA_CHECK));
+    }
+    memset(word, 0, sizeof word);
+    fill(word, bits / 8);
+    fill(word + PAYLOAD_PLACES / 8, (PLACES - PAYLOAD_PLACES) / 8);
+    input(&of_word, cause(BIRDOVESTA_CHECK));
+    flip(word, PAYLOAD_PLACES - 1);
+    input(&of_word, cause(BIRDOVESTA_SHORTENED));
+    flip(word, bits);
+    input(&of_word, cause(BIRDOVESTA_SHORTENED));
+    bytes--;
+    input(&of_word, 2);
+    bits++;
+    input(&of_word, bits > PAYLOAD_MOST ? 1 : 10);
+    bits--;
+}
+
+/* The line word that the encoder writes of any payload. */
+static void put_line(void)
+{
+    put_payload(2);
+    delimiter = bits * 77 % 1024;
+    room = BIRDOVESTA_LINE_BYTES(bits);
+    encode();
+    bytes = room;
+}
+
+static void line_words(void)
+{
+    put_line();
+    input(&of_line, 0);
+    size_t spoilt[] = { bits, bits + SENT / 2, bits + SENT - 1, bits + SENT, bits + SENT + 9 };
+    for (size_t n = 0; n < sizeof spoilt / sizeof *spoilt; n++) {
+        put_line();
+        flip(line, spoilt[n]);
+        input(&of_line, cause(n < 3 ? BIRDOVESTA_PARITY : BIRDOVESTA_DELIMITER));
+    }
+    delimiter = 1024;
+    input(&of_line, 4);
+    if ((bits + SENT + 10) % 8 > 0) {
+        flip(line, bits + SENT + 10);
+        input(&of_line, 3);
+    }
+    bytes--;
+    input(&of_line, 2);
+    bits++;
+    input(&of_line, bits > PAYLOAD_MOST ? 1 : 10);
+    bits--;
+}
+
+static void facts(const struct measured *of)
+{
+    char text[80];
+    snprintf(text, sizeof text, ", %u inputs, as meant", of->inputs);
+    fact(of->others == 0, of->name, text);
+    snprintf(text, sizeof text, " takes %zu of %zu", of->taken, of->told);
+    fact(of->taken <= of->told, of->name, text);
+    snprintf(text, sizeof text, ", %zu not over twice", of->told);
+    fact(of->told <= 2 * of->taken, of->name, text);
+}
+
+int main(void)
+{
+    for (bits = LEAST; bits <= PAYLOAD_MOST; bits += LEAST) {
+        encodings();
+        full_words();
+        line_words();
+    }
+    bits = 0;
+    input(&of_encode, 1);
+    input(&of_word, 1);
+    input(&of_line, 1);
+    facts(&of_encode);
+    facts(&of_word);
+    facts(&of_line);
+    printf("%u right, %u wrong\n", right, wrong);
+    return wrong > 0;
+}

@@ -1,0 +1,191 @@
+/* Threads that make all three calls at once, each with inputs
+ * of its own and with bytes that all of them read. Each must
+ * get what the same calls gave when nobody else made any.
+ *
+ * What the calls give alone is taken as it is: host.c and the
+ * yardstick compare that with paper 01.
+ *
+ * Prints one fact a line, of at most 40 characters, and ends
+ * with `N right, M wrong`. Exit status 1 if any is wrong.
+ */
+#define _XOPEN_SOURCE 700
+#include "birdovesta.h"
+
+#include <pthread.h>
+#include <stdio.h>
+#include <string.h>
+
+enum {
+    THREADS = 8,
+    ROUNDS = 500,
+    BLOCK = 257, /* a data block */
+    SENT = 2560,
+    COMMON = 407, /* the common delimiter */
+    MOST = 2304 /* the most bytes lent */
+};
+
+/* What a thread reads. Those of index THREADS are read by all. */
+struct input {
+    size_t bits, delimiter;
+    uint8_t payload[MOST], word[MOST], line[MOST], spoilt[MOST];
+};
+
+/* What it gets: the answers, and the bytes written. */
+struct output {
+    uint64_t encode[3], word[2], line[3];
+    uint8_t own[MOST], common[MOST];
+};
+
+static struct input inputs[THREADS + 1];
+static struct output alone[THREADS];
+
+/* How often a thread's answers were others than alone. */
+static struct differences {
+    unsigned encode, word, line;
+} differences[THREADS];
+
+static pthread_barrier_t gate;
+static unsigned right, wrong;
+
+static void fact(const char *text, int holds)
+{
+    printf("%s: %s\n", holds ? "right" : "wrong", text);
+    if (holds)
+        right++;
+    else
+        wrong++;
+}
+
+/* All calls, once each. */
+
+static uint64_t encode(const struct input *in, size_t delimiter, uint8_t *line)
+{
+    return birdovesta_encode(in->bits, in->payload, (in->bits + 7) / 8, delimiter, line, MOST);
+}
+
+static uint64_t check_word(const struct input *in)
+{
+    return birdovesta_check_word(in->bits, in->word, BIRDOVESTA_WORD_BYTES);
+}
+
+static uint64_t check_line(const struct input *in, const uint8_t *line, size_t delimiter)
+{
+    return birdovesta_check_line(in->bits, line, BIRDOVESTA_LINE_BYTES(in->bits), delimiter);
+}
+
+static void round_of_calls(size_t thread, struct output *out)
+{
+    const struct input *own = &inputs[thread], *common = &inputs[THREADS];
+    memset(out, 0, sizeof *out);
+    out->encode[0] = encode(own, own->delimiter, out->own);
+    out->line[0] = check_line(own, own->line, own->delimiter);
+    out->word[0] = check_word(own);
+    out->encode[1] = encode(common, own->delimiter, out->common);
+    out->line[1] = check_line(own, own->spoilt, own->delimiter);
+    out->word[1] = check_word(common);
+    out->encode[2] = encode(own, 1024, out->own);
+    out->line[2] = check_line(common, common->line, own->delimiter);
+}
+
+/* A thread */
+
+static void compare(struct differences *count, const struct output *got, const struct output *meant)
+{
+    count->encode += memcmp(got->encode, meant->encode, sizeof got->encode) != 0
+        || memcmp(got->own, meant->own, sizeof got->own) != 0
+        || memcmp(got->common, meant->common, sizeof got->common) != 0;
+    count->word += memcmp(got->word, meant->word, sizeof got->word) != 0;
+    count->line += memcmp(got->line, meant->line, sizeof got->line) != 0;
+}
+
+static void *rounds(void *number)
+{
+    size_t thread = *(size_t *)number;
+    struct output got;
+    for (unsigned n = 0; n < ROUNDS; n++) {
+        pthread_barrier_wait(&gate);
+        round_of_calls(thread, &got);
+        compare(&differences[thread], &got, &alone[thread]);
+    }
+    return NULL;
+}
+
+/* Inputs */
+
+static void flip(uint8_t *bytes, size_t place)
+{
+    bytes[place / 8] ^= (uint8_t)(1u << place % 8);
+}
+
+/* Bytes that look random, the same at every run. */
+static void fill(uint8_t *bytes, size_t count)
+{
+    static uint64_t state = 142;
+    for (size_t n = 0; n < count; n++) {
+        state = state * 6364136223846793005u + 1442695040888963407u;
+        bytes[n] = (uint8_t)(state >> 56);
+    }
+}
+
+/* Each has another K, payload, delimiter and spoilt places.
+ * A thread's delimiter differs from the common one in one bit. */
+static void make(size_t n)
+{
+    struct input *in = &inputs[n];
+    in->bits = BLOCK * (7 * n + 1 - n / THREADS);
+    in->delimiter = n < THREADS ? COMMON ^ 1u << n : COMMON;
+    fill(in->payload, in->bits / 8);
+    flip(in->word, 29 * n);
+    encode(in, in->delimiter, in->line);
+    memcpy(in->spoilt, in->line, MOST);
+    flip(in->spoilt, in->bits + (n + 1) * (SENT / THREADS / 2));
+}
+
+/* Whether a thread's answers would be noticed in another's. */
+static int all_differ(void)
+{
+    int differ = 1;
+    for (size_t n = 0; n < THREADS; n++)
+        for (size_t other = 0; other < n; other++)
+            differ &= memcmp(alone[n].own, alone[other].own, MOST) != 0
+                && memcmp(alone[n].common, alone[other].common, MOST) != 0
+                && alone[n].word[0] != alone[other].word[0]
+                && alone[n].line[1] != alone[other].line[1]
+                && alone[n].line[2] != alone[other].line[2];
+    return differ;
+}
+
+int main(void)
+{
+    static struct input before[THREADS + 1];
+    static size_t numbers[THREADS];
+    pthread_t threads[THREADS];
+    for (size_t n = 0; n <= THREADS; n++)
+        make(n);
+    memcpy(before, inputs, sizeof inputs);
+    for (size_t n = 0; n < THREADS; n++)
+        round_of_calls(n, &alone[n]);
+    fact("alone, no two threads alike", all_differ());
+
+    pthread_barrier_init(&gate, NULL, THREADS);
+    for (size_t n = 0; n < THREADS; n++) {
+        numbers[n] = n;
+        if (pthread_create(&threads[n], NULL, rounds, &numbers[n]) != 0) {
+            printf("wrong: no more threads to be had\n");
+            return 1;
+        }
+    }
+    struct differences sum = { 0, 0, 0 };
+    for (size_t n = 0; n < THREADS; n++) {
+        pthread_join(threads[n], NULL);
+        sum.encode += differences[n].encode;
+        sum.word += differences[n].word;
+        sum.line += differences[n].line;
+    }
+    fact("encode, 8 at once as alone", sum.encode == 0);
+    fact("check_word, 8 at once as alone", sum.word == 0);
+    fact("check_line, 8 at once as alone", sum.line == 0);
+    fact("no byte that is read has moved", memcmp(before, inputs, sizeof inputs) == 0);
+    printf("%u right, %u wrong\n", right, wrong);
+    return wrong > 0;
+}
