@@ -39,7 +39,7 @@
  * 0               written, or accepted
  * 1 to 65,535     refused, by this number:
  *   1  bits is 0 or above 14,392
- *   2  the bytes given are not exactly those needed
+ *   2  too many or too few bytes
  *   3  an unused high bit is 1
  *   4  the delimiter is above 1,023
  *   5  the output is shorter than needed

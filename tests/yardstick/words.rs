@@ -81,7 +81,7 @@ impl Maker {
             held += count;
             pieces += 1;
             arguments.push_str(&format!(" {} {}", count, name));
-            answer.push_str(&format!("held {}|", held));
+            answer.push_str(&format!("piece {} held {}|", pieces, held));
         }
         self.case(&arguments, &(answer + "written 322"), &format!("{}.out", k), &format!("{}.tail", k));
     }

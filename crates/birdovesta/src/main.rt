@@ -1,50 +1,30 @@
 // The program: each command hands files of bytes to the proved libraries and says what they answer.
-mod commands;
-
 use console::say;
+use console::say::TROUBLE;
 use lessons::sheet;
 use lessons::tally;
-use lessons::vectors;
 
 // lessons [VECTORS]
-fn run_lessons() {
+fn lessons() -> u8 {
     if 3 < os::arg_count() {
-        say::wrong(b"lessons needs nothing, or one VECTORS", b"", b"");
-        return;
-    }
-    if !vectors::is_there() {
-        let tally = sheet::run();
-        say::text(b"vectors: none\n");
-        tally::total(tally);
-        return;
+        return say::fault(b"lessons needs nothing, or one VECTORS");
     }
     let mut text = io::large_buffer();
     let got = vectors::read(&mut text);
     if !got.fine {
-        return;
+        return TROUBLE;
     }
     let size = got.size;
     if size == 65536 {
-        say::wrong(b"VECTORS is too long; cut it in two", b"", b"");
-        return;
+        return say::fault(b"VECTORS is too long; cut it in two");
     }
     let tally = sheet::run();
-    tally::total(vectors::run(&text[..size], tally));
+    tally::total(vectors::run(&text[..size], tally))
 }
 
-fn help() {
-    say::text(b"lessons [VECTORS]\n");
-    say::text(b"encode BITS DELIMITER PAYLOAD LINE\n");
-    say::text(b"complete BITS WORD OUT\n");
-    say::text(b"word BITS WORD\n");
-    say::text(b"line BITS DELIMITER LINE\n");
-    say::text(b"stream DELIMITER OUT [BITS PIECE]...\n");
-    say::text(b"help\n");
-}
-
-fn run(command: &[u8]) {
+fn run(command: &[u8]) -> u8 {
     if check::same(command, b"lessons") {
-        return run_lessons();
+        return lessons();
     }
     if check::same(command, b"encode") {
         return commands::encode();
@@ -59,16 +39,22 @@ fn run(command: &[u8]) {
         return commands::check_line();
     }
     if check::same(command, b"stream") {
-        return commands::stream();
+        return pieces::feed_and_finish();
     }
-    if check::same(command, b"help") {
-        return help();
+    if check::same(command, b"help")
+        || check::same(command, b"--help")
+        || check::same(command, b"-h")
+    {
+        return help::say();
     }
-    say::wrong(b"no such command; type birdovesta help", b"", b"");
+    if check::same(command, b"--version") {
+        return help::version();
+    }
+    say::fault(b"no such command; type birdovesta help")
 }
 
 fn main() {
     let mut command = [0u8; 16];
     let n = os::arg(1, &mut command);
-    run(&command[..n]);
+    say::exit(run(&command[..n]));
 }

@@ -1,9 +1,10 @@
-// Files of bytes. One is read as far as there is room, so that whoever reads a byte too many sees it, and written whole or
-// not at all: to a new file beside it, NAME.new, which then takes its name.
+// Files of bytes to read. One is read as far as there is room, so that whoever reads a byte too many sees it.
 ghost use lib.ListN.{length};
 ghost use Prim.Native.Nat.{_≤_};
 ghost use Rattle.io.specs.Counts.{Counts};
+ghost use Rattle.libc.specs.Io.{Ended};
 use crate::say;
+use kinds::Known;
 
 // How many bytes were read, and whether nothing failed.
 pub struct Got {
@@ -48,118 +49,116 @@ fn fill(fd: i32, room: &mut [u8]) -> Got
     }
 }
 
-// Reads the file at a path, or says that it cannot. (A file that was not opened can't be read either.)
+// Why a file cannot be read.
+pub fn unreadable(error: i32, name: &[u8]) -> u8 {
+    if error == libc::ENOENT {
+        return say::file(b"no such file", name);
+    }
+    if error == libc::ENOTDIR {
+        return say::file(b"no such file", name);
+    }
+    if error == libc::EISDIR {
+        return say::file(b"is a folder", name);
+    }
+    if error == libc::EACCES {
+        return say::file(b"not readable", name);
+    }
+    if error == libc::ENAMETOOLONG {
+        return say::file(b"the name is too long", name);
+    }
+    if error == libc::ELOOP {
+        return say::file(b"too many links", name);
+    }
+    say::file(b"cannot be read", name)
+}
+
+// Reads the file at a path, or says why it cannot.
 pub fn read_at(path: &[u8], room: &mut [u8]) -> Got
     ensures { λ r. ⌜ Counts (r .size) (now (room .exit)) ⌝ }
 {
+    // A file that was not opened can't be read either, but the reason is the opening's.
     let fd = os::open_read(path);
+    let unopened = os::errno();
     let got = fill(fd, room);
+    let unread = os::errno();
     libc::close(fd);
     if !got.fine {
-        say::cannot_read(path);
+        if fd < 0 {
+            unreadable(unopened, path);
+        } else {
+            unreadable(unread, path);
+        }
     }
     got
+}
+
+// The path that an argument names. Where it has no name, says so, and the path has no bytes.
+pub fn path(i: usize, room: &mut [u8]) -> usize
+    ensures { λ r. ⌜ Counts r (now (room .exit)) ⌝ }
+{
+    let n = os::arg(i, room);
+    if n == 0 {
+        if os::errno() == libc::ENAMETOOLONG {
+            say::fault(b"a file name is too long");
+        } else {
+            say::fault(b"a file name is empty");
+        }
+    }
+    n
 }
 
 // Reads the file that an argument names.
 pub fn read(i: usize, room: &mut [u8]) -> Got
     ensures { λ r. ⌜ Counts (r .size) (now (room .exit)) ⌝ }
 {
-    let mut path = io::buffer();
-    let n = os::arg(i, &mut path);
-    read_at(&path[..n], room)
+    let mut name = io::buffer();
+    let n = path(i, &mut name);
+    if n == 0 {
+        return Got {
+            fine: false,
+            size: 0,
+        };
+    }
+    read_at(&name[..n], room)
 }
 
-// Whether the file that an argument names can be opened for reading. Where it cannot, says so.
-pub fn is_there(i: usize) -> bool {
-    let mut path = io::buffer();
-    let n = os::arg(i, &mut path);
-    let fd = os::open_read(&path[..n]);
-    if fd < 0 {
-        say::cannot_read(&path[..n]);
-        return false;
-    }
-    libc::close(fd);
-    true
-}
-
-// Whether a new file may take this name: no file has it, or a plain one that may be written. A terminal, a pipe or another
-// device can't be synchronised, and keeps its name.
-fn is_free(path: &[u8]) -> bool {
-    if path.len() == 0 {
-        return false;
-    }
-    let fd = os::open_update(path);
-    if fd < 0 {
-        return os::errno() == libc::ENOENT;
-    }
-    let status = libc::fsync(fd);
-    libc::close(fd);
-    status == 0
-}
-
-// Writes all of the bytes to an open file, and closes it.
-fn write_and_close(fd: i32, bytes: &[u8]) -> bool {
-    let is_written = io::write_all(fd, bytes);
-    let synchronised = libc::fsync(fd);
-    let closed = libc::close(fd);
-    is_written && synchronised == 0 && closed == 0
-}
-
-// Gives the bytes to the file at a path, by way of the new one. Where that fails, says so, and the new file is gone.
-fn replace(path: &[u8], new: &[u8], bytes: &[u8]) -> bool {
-    let fd = os::create(new);
-    if fd < 0 {
-        if os::errno() == libc::EEXIST {
-            say::wrong(b"", new, b" is in the way; remove it");
-        } else {
-            say::cannot_write(path);
-        }
-        return false;
-    }
-    if write_and_close(fd, bytes) {
-        if os::rename(new, path) == 0 {
-            return true;
-        }
-    }
-    os::unlink(new);
-    say::cannot_write(path);
-    false
-}
-
-// Stores a byte, where there is room.
-fn put(name: &mut [u8], at: usize, byte: u8) {
-    if at < name.len() {
-        name[at] = byte;
-    }
-}
-
-// Puts .new after the first n bytes of a name, and answers its length, or 0 where no path is so long.
-fn add_new(name: &mut [u8], n: usize) -> usize
-    ensures { λ r. ⌜ Counts r (now (name .exit)) ⌝ }
+// A name as C reads it: ended by a 0. One that is too long for C is left out.
+pub fn ended(name: &[u8]) -> [u8; 4096]
+    ensures { λ r. ⌜ Ended r ⌝ }
 {
-    if 4091 < n {
-        return 0;
+    let mut path = [0u8; 4096];
+    if 4095 < name.len() {
+        return path;
     }
-    put(name, n, b'.');
-    put(name, n + 1, b'n');
-    put(name, n + 2, b'e');
-    put(name, n + 3, b'w');
-    io::count((n + 4) as isize, name)
+    for i in 0..name.len() {
+        path[i] = name[i];
+    }
+    path[4095] = 0;
+    path
 }
 
-// Writes the file that an argument names, and says of how many bytes; or says what is wrong, and no file has changed.
-pub fn write(i: usize, bytes: &[u8]) {
-    let mut path = io::buffer();
-    let n = os::arg(i, &mut path);
-    let mut new = io::buffer();
-    let kept = os::arg(i, &mut new);
-    let m = add_new(&mut new, kept);
-    if !is_free(&path[..n]) {
-        say::cannot_write(&path[..n]);
-        return;
+// What is known of the file of this name.
+pub fn known(name: &[u8]) -> Known {
+    let path = ended(name);
+    kinds::at(&path)
+}
+
+// Whether the file that an argument names is there to be read, as far as can be told without opening it, which could be
+// done only once where it is a pipe.
+pub fn is_there(i: usize) -> bool {
+    let mut name = io::buffer();
+    let n = path(i, &mut name);
+    if n == 0 {
+        return false;
     }
-    if replace(&path[..n], &new[..m], bytes) {
-        say::fact(b"written ", bytes.len());
+    let known = known(&name[..n]);
+    if !known.fine {
+        unreadable(os::errno(), &name[..n]);
+        return false;
     }
+    if known.mode & libc::S_IFMT == libc::S_IFDIR {
+        unreadable(libc::EISDIR, &name[..n]);
+        return false;
+    }
+    true
 }

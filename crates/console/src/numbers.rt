@@ -77,11 +77,23 @@ pub fn value(number: Number) -> usize
     }
 }
 
+// The number that an argument spells. One that is longer than the room is too large, if it begins as a number.
+fn spelled(i: usize) -> Number {
+    let mut text = io::large_buffer();
+    let n = os::arg(i, &mut text);
+    if os::errno() != libc::ENAMETOOLONG {
+        return read(&text[..n]);
+    }
+    match read(&text) {
+        Number::Is(_) => Number::TooLarge,
+        Number::Nothing => Number::Nothing,
+        Number::TooLarge => Number::TooLarge,
+    }
+}
+
 // The number that an argument spells. What is wrong with it is said, with its name and the numbers to type.
 pub fn argument(i: usize, name: &[u8], range: &[u8]) -> Number {
-    let mut text = io::buffer();
-    let n = os::arg(i, &mut text);
-    let number = read(&text[..n]);
+    let number = spelled(i);
     match number {
         Number::Is(_) => {}
         Number::Nothing => {

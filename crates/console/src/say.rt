@@ -1,75 +1,103 @@
-// What the program says: answers on standard output, one fact a line; what is wrong on standard error, in one line.
+// What the program says: answers on standard output, each by one write; what is wrong on standard error, first what it
+// is and then, on a line of its own, the name of the file. Every function tells an exit status.
+ghost use mathlib.Core.Path.{_≡_};
+ghost use mathlib.Core.Logic.{_⊎_};
+ghost use Prim.Native.Nat.{_≤_, max};
+ghost use lib.ListN.{length};
+ghost use Rattle.answers.specs.Answers.{statusOf};
+use answers::lines;
+use answers::said;
+use answers::said::Said;
 use libc::STDERR_FILENO;
 use libc::STDOUT_FILENO;
-use rules::Cause;
-use rules::Judgement;
-use rules::Verdict;
+
+// Beside the answers' own statuses: something was wrong, and that was said; an answer could not be written.
+pub const TROUBLE: u8 = 3;
+
+pub const LOST: u8 = 4;
+
+// Where the program's exit status is written: a Rattle program has none of its own, so the script that starts it reads
+// it there.
+const STATUS_FILENO: i32 = 9;
+
+// The worse of two statuses.
+pub fn worse(a: u8, b: u8) -> u8
+    ensures { λ r. ⌜ r ≡ max a b ⌝ }
+{
+    if a < b {
+        return b;
+    }
+    a
+}
+
+fn written(words: &[u8], status: u8) -> u8
+    ensures { λ r. ⌜ (r ≡ status) ⊎ (r ≡ 4) ⌝ }
+{
+    if io::write_all(STDOUT_FILENO, words) {
+        return status;
+    }
+    LOST
+}
+
+// An answer.
+pub fn answer(answer: Said) -> u8
+    ensures { λ r. ⌜ (r ≡ statusOf answer) ⊎ (r ≡ 4) ⌝ }
+{
+    let mut line = [0u8; 64];
+    let n = said::line(answer, &mut line);
+    written(&line[..n], said::status(answer))
+}
+
+// The line of a lesson. That it is wrong is told by the totals.
+pub fn lesson(right: bool, name: &[u8]) -> u8
+    requires { ⌜ length (now name) ≤ 50 ⌝ }
+    ensures { λ r. ⌜ (r ≡ 0) ⊎ (r ≡ 4) ⌝ }
+{
+    let mut line = [0u8; 64];
+    let n = said::lesson(right, name, &mut line);
+    written(&line[..n], 0)
+}
 
 // A text as it is given.
-pub fn text(words: &[u8]) {
-    io::write_all(STDOUT_FILENO, words);
+pub fn text(words: &[u8]) -> u8 {
+    written(words, 0)
 }
 
-// A number and what it counts, as `19 right`.
-pub fn count(number: usize, name: &[u8]) {
-    io::print_decimal(STDOUT_FILENO, number as u64);
-    io::write_all(STDOUT_FILENO, name);
-}
-
-// A fact and its number, as `written 322`.
-pub fn fact(name: &[u8], number: usize) {
-    io::write_all(STDOUT_FILENO, name);
-    io::print_decimal(STDOUT_FILENO, number as u64);
-    io::write_all(STDOUT_FILENO, b"\n");
-}
-
-pub fn refusal(number: usize) {
-    fact(b"refusal ", number);
-}
-
-// The lowest failing row, and how many rows fail, as `check 176 fails 6`.
-fn check(row: usize, count: usize) {
-    io::write_all(STDOUT_FILENO, b"check ");
-    io::print_decimal(STDOUT_FILENO, row as u64);
-    fact(b" fails ", count);
-}
-
-fn cause(cause: Cause) {
-    match cause {
-        Cause::Shortened(place) => fact(b"shortened ", place),
-        Cause::Check { row, count } => check(row, count),
-        Cause::Parity(place) => fact(b"parity ", place),
-        Cause::Delimiter(bit) => fact(b"delimiter ", bit),
-    }
-}
-
-fn verdict(verdict: Verdict) {
-    match verdict {
-        Verdict::Accepted => text(b"accepted\n"),
-        Verdict::Rejected(why) => cause(why),
-    }
-}
-
-// What a check answers.
-pub fn judgement(judgement: Judgement) {
-    match judgement {
-        Judgement::Judged(told) => verdict(told),
-        Judgement::Refused(number) => refusal(number),
-    }
-}
-
-// What is wrong and what to type: a beginning, a name and an end.
-pub fn wrong(before: &[u8], name: &[u8], after: &[u8]) {
-    io::write_all(STDERR_FILENO, before);
-    io::write_all(STDERR_FILENO, name);
-    io::write_all(STDERR_FILENO, after);
+// What is wrong.
+pub fn fault(words: &[u8]) -> u8 {
+    io::write_all(STDERR_FILENO, words);
     io::write_all(STDERR_FILENO, b"\n");
+    TROUBLE
 }
 
-pub fn cannot_read(path: &[u8]) {
-    wrong(b"cannot read ", path, b"; name another file");
+// What is wrong with a number, and what to type: its name, what is wrong and its range.
+pub fn wrong(name: &[u8], words: &[u8], range: &[u8]) -> u8 {
+    io::write_all(STDERR_FILENO, name);
+    io::write_all(STDERR_FILENO, words);
+    fault(range)
 }
 
-pub fn cannot_write(path: &[u8]) {
-    wrong(b"cannot write ", path, b"; name another file");
+// A byte of a name.
+fn byte(byte: u8) {
+    let mut line = [0u8; 64];
+    let n = lines::byte(byte, &mut line);
+    io::write_all(STDERR_FILENO, &line[..n]);
+}
+
+// What is wrong with a file, and its name. Bytes that are no printable characters are shown by their numbers.
+pub fn file(words: &[u8], name: &[u8]) -> u8 {
+    fault(words);
+    for i in 0..name.len() {
+        byte(name[i]);
+    }
+    fault(b"")
+}
+
+// Tells the exit status to the script. A lost answer is said now, once, and counts as trouble with a file.
+pub fn exit(status: u8) {
+    let mut told = status;
+    if status == LOST {
+        told = fault(b"answers lost: no room to write them");
+    }
+    libc::write(STATUS_FILENO, &[b'0' + told % 4]);
 }

@@ -1,4 +1,3 @@
-// The lesson sheet of paper 01 and files of vectors, run through the proved libraries and compared.
+// The lesson sheet of paper 01, run through the proved libraries and compared.
 pub mod sheet;
 pub mod tally;
-pub mod vectors;

@@ -1,5 +1,7 @@
 // The lesson sheet of paper 01, with what W3 and W4 of paper 02 change, run through the libraries.
 // What a lesson expects is the sheet's.
+ghost use Prim.Native.Nat.{_≤_};
+ghost use lib.ListN.{length};
 use crate::tally;
 use crate::tally::Tally;
 use console::say;
@@ -206,10 +208,10 @@ fn one_held() -> Stream {
     later
 }
 
-fn lesson(tally: Tally, is_right: bool, name: &[u8]) -> Tally {
-    let later = tally::count(tally, is_right);
-    say::text(name);
-    later
+fn lesson(tally: Tally, is_right: bool, name: &[u8]) -> Tally
+    requires { ⌜ length (now name) ≤ 50 ⌝ }
+{
+    tally::count(tally, is_right, say::lesson(is_right, name))
 }
 
 // The places.
@@ -219,43 +221,39 @@ fn places(tally: Tally) -> Tally {
     let next_block = [256usize, 677, 1110, 1490, 1930, 2096];
     let last = [311usize, 1214, 2677];
     let parity = [551usize, 1024, 1633];
-    let a = lesson(tally, payload_place(0, &first), b"place 0\n");
-    let b = lesson(a, payload_place(255, &last_of_block), b"place 255\n");
-    let c = lesson(b, payload_place(256, &next_block), b"place 256\n");
-    let d = lesson(c, payload_place(14391, &last), b"place 14391\n");
-    lesson(d, parity_place(0, &parity), b"place 14592\n")
+    let a = lesson(tally, payload_place(0, &first), b"place 0");
+    let b = lesson(a, payload_place(255, &last_of_block), b"place 255");
+    let c = lesson(b, payload_place(256, &next_block), b"place 256");
+    let d = lesson(c, payload_place(14391, &last), b"place 14391");
+    lesson(d, parity_place(0, &parity), b"place 14592")
 }
 
 // Full words.
 fn words(tally: Tally) -> Tally {
-    let a = lesson(tally, all_zero(), b"all 0, K 257\n");
-    let b = lesson(a, is_check(only(0, 257), 176, 6), b"only bit 0, K 257\n");
-    let c = lesson(
-        b,
-        is_shortened(only(257, 257), 257),
-        b"only bit 257, K 257\n",
-    );
+    let a = lesson(tally, all_zero(), b"all 0, K 257");
+    let b = lesson(a, is_check(only(0, 257), 176, 6), b"only bit 0, K 257");
+    let c = lesson(b, is_shortened(only(257, 257), 257), b"only bit 257, K 257");
     let d = lesson(
         c,
         is_shortened(only(14392, 14392), 14392),
-        b"only bit 14392, K 14392\n",
+        b"only bit 14392, K 14392",
     );
     lesson(
         d,
         is_check(only(14592, 257), 551, 3),
-        b"only bit 14592, K 257\n",
+        b"only bit 14592, K 257",
     )
 }
 
 // Line words and refusals.
 fn lines(tally: Tally) -> Tally {
-    let a = lesson(tally, least_payload(), b"K 257, bytes 00, delimiter 1023\n");
-    let b = lesson(a, bad_count(0, 1), b"K 0\n");
-    let c = lesson(b, bad_count(14393, 1), b"K 14393\n");
-    let d = lesson(c, bad_count(1, 10), b"K 1\n");
-    let e = lesson(d, unused_bit(), b"K 257, last 02, delimiter 1024\n");
-    let f = lesson(e, room_enough(), b"K 14392, room 2121\n");
-    lesson(f, room_too_short(), b"K 14392, room 2120\n")
+    let a = lesson(tally, least_payload(), b"K 257, bytes 00, delimiter 1023");
+    let b = lesson(a, bad_count(0, 1), b"K 0");
+    let c = lesson(b, bad_count(14393, 1), b"K 14393");
+    let d = lesson(c, bad_count(1, 10), b"K 1");
+    let e = lesson(d, unused_bit(), b"K 257, last 02, delimiter 1024");
+    let f = lesson(e, room_enough(), b"K 14392, room 2121");
+    lesson(f, room_too_short(), b"K 14392, room 2120")
 }
 
 fn streams(tally: Tally) -> Tally {
@@ -264,22 +262,22 @@ fn streams(tally: Tally) -> Tally {
     let a = lesson(
         tally,
         is_done(full_then(0, &none)),
-        b"14392 held, piece of 0\n",
+        b"14392 held, piece of 0",
     );
     let b = lesson(
         a,
         is_refused(full_then(1, &one), 6),
-        b"14392 held, piece of 1\n",
+        b"14392 held, piece of 1",
     );
     let c = lesson(
         b,
         is_refused(finish(stream::begin(), 1024), 1),
-        b"fresh finish, delimiter 1024\n",
+        b"fresh finish, delimiter 1024",
     );
     lesson(
         c,
         is_refused(finish(one_held(), 1024), 10),
-        b"1 held, finish, delimiter 1024\n",
+        b"1 held, finish, delimiter 1024",
     )
 }
 

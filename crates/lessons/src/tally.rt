@@ -1,17 +1,24 @@
 // How many of what was tried is right, and how many wrong.
 ghost use mathlib.Core.Path.{_≡_};
 ghost use Rattle.lessons.specs.Tallies.{none, oneMore, counted};
+use answers::said::Said;
 use console::say;
 
+// status: the worst exit status of the lines said so far.
 pub struct Tally {
     pub right: usize,
     pub wrong: usize,
+    pub status: u8,
 }
 
 pub fn new() -> Tally
     ensures { λ r. ⌜ r ≡ none ⌝ }
 {
-    Tally { right: 0, wrong: 0 }
+    Tally {
+        right: 0,
+        wrong: 0,
+        status: 0,
+    }
 }
 
 // One more, as far as can be counted.
@@ -24,25 +31,28 @@ pub fn more(count: usize) -> usize
     count
 }
 
-// Begins a line with `right` or `wrong`, and counts it.
-pub fn count(tally: Tally, right: bool) -> Tally
-    ensures { λ r. ⌜ r ≡ counted tally right ⌝ }
+// Counts what was right or wrong, and was said with this status.
+pub fn count(tally: Tally, right: bool, status: u8) -> Tally
+    ensures { λ r. ⌜ r ≡ counted tally right status ⌝ }
 {
+    let worst = say::worse(tally.status, status);
     if right {
-        say::text(b"right ");
         return Tally {
             right: more(tally.right),
             wrong: tally.wrong,
+            status: worst,
         };
     }
-    say::text(b"wrong ");
     Tally {
         right: tally.right,
         wrong: more(tally.wrong),
+        status: worst,
     }
 }
 
-pub fn total(tally: Tally) {
-    say::count(tally.right, b" right\n");
-    say::count(tally.wrong, b" wrong\n");
+// Says the totals. The status is 1 where anything was wrong.
+pub fn total(tally: Tally) -> u8 {
+    let right = say::answer(Said::Right(tally.right));
+    let wrong = say::answer(Said::Wrong(tally.wrong));
+    say::worse(tally.status, say::worse(right, wrong))
 }

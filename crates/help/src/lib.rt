@@ -1,0 +1,274 @@
+// What the program says of itself, in lines of at most 40 characters: its commands, its answers and its refusals.
+use console::numbers;
+use console::numbers::Number;
+use console::say;
+use console::say::TROUBLE;
+
+pub fn version() -> u8 {
+    say::text(b"birdovesta 2\n")
+}
+
+fn all() -> u8 {
+    say::text(
+        b"lessons [VECTORS]\n\
+        encode BITS DELIMITER PAYLOAD OUT\n\
+        complete BITS WORD OUT\n\
+        word BITS WORD\n\
+        line BITS DELIMITER LINE\n\
+        stream DELIMITER OUT [BITS PIECE]...\n\
+        help [COMMAND]\n\
+        help refusal [NUMBER]\n\
+        help ANSWER, such as help check\n\
+        OUT is written, or replaced whole.\n\
+        exit 0: written, held, accepted, right\n\
+        exit 1: not accepted, or a wrong lesson\n\
+        exit 2: refused\n\
+        exit 3: wrong use, a file, not built\n",
+    )
+}
+
+fn lessons() -> u8 {
+    say::text(
+        b"lessons [VECTORS]\n\
+        VECTORS: a file as in docs/VECTORS.md,\n\
+        else vectors.txt where it is there\n\
+        Nothing is written.\n\
+        answers: right NAME, wrong NAME\n\
+        refusals: none\n",
+    )
+}
+
+fn encode() -> u8 {
+    say::text(
+        b"encode BITS DELIMITER PAYLOAD OUT\n\
+        BITS: 257 to 14392, a multiple of 257\n\
+        DELIMITER: 0 to 1023\n\
+        PAYLOAD: a file of BITS bits\n\
+        OUT: the line word, BITS + 2570 bits,\n\
+        written or replaced whole\n\
+        answers: written BYTES\n\
+        refusals, in order: 1 10 2 3 4\n",
+    )
+}
+
+fn complete() -> u8 {
+    say::text(
+        b"complete BITS WORD OUT\n\
+        BITS: 257 to 14392, a multiple of 257\n\
+        WORD: a full word, 2208 bytes,\n\
+        its parity may be anything\n\
+        OUT: the word with its parity,\n\
+        written or replaced whole\n\
+        answers: written BYTES\n\
+        refusals, in order: 1 10 2 8\n",
+    )
+}
+
+fn word() -> u8 {
+    say::text(
+        b"word BITS WORD\n\
+        BITS: 257 to 14392, a multiple of 257\n\
+        WORD: a full word, 2208 bytes\n\
+        Nothing is written.\n\
+        answers: accepted, shortened, check\n\
+        refusals, in order: 1 10 2\n",
+    )
+}
+
+fn line() -> u8 {
+    say::text(
+        b"line BITS DELIMITER LINE\n\
+        BITS: 257 to 14392, a multiple of 257\n\
+        DELIMITER: 0 to 1023\n\
+        LINE: a line word, BITS + 2570 bits\n\
+        Nothing is written.\n\
+        answers: accepted, parity, delimiter\n\
+        refusals, in order: 1 10 2 3 4\n",
+    )
+}
+
+fn stream() -> u8 {
+    say::text(
+        b"stream DELIMITER OUT [BITS PIECE]...\n\
+        DELIMITER: 0 to 1023\n\
+        OUT: the parity and the delimiter\n\
+        that follow the payload, 322 bytes,\n\
+        written or replaced whole\n\
+        BITS: 0 to 14392\n\
+        PIECE: a file of BITS bits\n\
+        answers: piece NUMBER held BITS,\n\
+        then written BYTES\n\
+        refusals of a piece, in order: 2 3 6\n\
+        A refused piece is left out.\n\
+        refusals at the end, in order: 1 10 4\n",
+    )
+}
+
+fn help() -> u8 {
+    say::text(
+        b"help [COMMAND]\n\
+        help refusal [NUMBER]\n\
+        help ANSWER, such as help check\n\
+        Nothing is written.\n\
+        refusals: none\n",
+    )
+}
+
+// Every refusal: its number, when it is given, and what to do. include/birdovesta.h has the same words.
+fn refusal(number: usize) -> u8 {
+    match number {
+        1 => say::text(b"refusal 1\nbits is 0 or above 14392\nGive 257 to 14392 bits.\n"),
+        2 => say::text(
+            b"refusal 2\ntoo many or too few bytes\nGive just the bytes that the bits take.\n",
+        ),
+        3 => say::text(
+            b"refusal 3\nan unused high bit is 1\nSet the last byte's high bits to 0.\n",
+        ),
+        4 => say::text(b"refusal 4\nthe delimiter is above 1023\nGive 0 to 1023.\n"),
+        5 => say::text(b"refusal 5\nthe output is shorter than needed\nLend more bytes from C.\n"),
+        6 => say::text(
+            b"refusal 6\nmore than 14392 bits with this piece\nBegin the next word with it.\n",
+        ),
+        7 => say::text(b"refusal 7\nthe stream claims above 14392 bits\nBegin a new stream.\n"),
+        8 => say::text(b"refusal 8\na shortened place is 1\nSet places BITS to 14591 to 0.\n"),
+        10 => say::text(
+            b"refusal 10\nbits is not a multiple of 257\nGive whole data blocks of 257 bits.\n",
+        ),
+        _ => TROUBLE,
+    }
+}
+
+fn refusals() -> u8 {
+    let mut status = 0;
+    for number in 0..17 {
+        let said = refusal(number);
+        if said != TROUBLE {
+            status = say::worse(status, said);
+        }
+    }
+    status
+}
+
+// help refusal [NUMBER]
+fn of_refusals() -> u8 {
+    if os::arg_count() == 3 {
+        return refusals();
+    }
+    let Number::Is(number) = numbers::argument(3, b"NUMBER", b"1 to 16") else {
+        return TROUBLE;
+    };
+    let said = refusal(number);
+    if said == TROUBLE {
+        return say::fault(b"no refusal has this number");
+    }
+    said
+}
+
+// An answer by its first word: what it means, and what to do.
+fn of_answer(word: &[u8]) -> u8 {
+    if check::same(word, b"accepted") {
+        return say::text(b"accepted\nThe word is right.\nNothing need be done.\n");
+    }
+    if check::same(word, b"check") {
+        return say::text(
+            b"check ROW fails COUNT\n\
+            ROW is the lowest check that fails,\n\
+            COUNT how many do. Send the word anew.\n",
+        );
+    }
+    if check::same(word, b"shortened") {
+        return say::text(
+            b"shortened PLACE\n\
+            PLACE is the lowest shortened place\n\
+            that is 1. Set it to 0.\n",
+        );
+    }
+    if check::same(word, b"parity") {
+        return say::text(
+            b"parity PLACE\n\
+            PLACE is the lowest sent parity bit\n\
+            that is wrong. Send the word anew.\n",
+        );
+    }
+    if check::same(word, b"delimiter") {
+        return say::text(
+            b"delimiter BIT\n\
+            BIT is the lowest delimiter bit that\n\
+            differs. Give the one that was sent.\n",
+        );
+    }
+    of_progress(word)
+}
+
+fn of_progress(word: &[u8]) -> u8 {
+    if check::same(word, b"written") {
+        return say::text(b"written BYTES\nOUT has so many bytes.\nNothing need be done.\n");
+    }
+    if check::same(word, b"piece") || check::same(word, b"held") {
+        return say::text(
+            b"piece NUMBER held BITS\n\
+            The stream holds so many bits now.\n\
+            The finish takes a multiple of 257.\n",
+        );
+    }
+    if check::same(word, b"refused") {
+        return say::text(
+            b"refused pieces COUNT\n\
+            So many pieces were left out.\n\
+            Look for: piece NUMBER refusal\n",
+        );
+    }
+    if check::same(word, b"right") || check::same(word, b"wrong") {
+        return say::text(
+            b"right NAME, wrong NAME\n\
+            This lesson or vector is as expected,\n\
+            or not: then read it again.\n",
+        );
+    }
+    say::fault(b"no help for that; type birdovesta help")
+}
+
+// A command by its name, or an answer.
+fn of_word(name: &[u8]) -> u8 {
+    if check::same(name, b"lessons") {
+        return lessons();
+    }
+    if check::same(name, b"encode") {
+        return encode();
+    }
+    if check::same(name, b"complete") {
+        return complete();
+    }
+    if check::same(name, b"word") {
+        return word();
+    }
+    if check::same(name, b"line") {
+        return line();
+    }
+    if check::same(name, b"stream") {
+        return stream();
+    }
+    if check::same(name, b"help") {
+        return help();
+    }
+    of_answer(name)
+}
+
+// help [COMMAND], help refusal [NUMBER], help ANSWER
+pub fn say() -> u8 {
+    let count = os::arg_count();
+    if count == 2 {
+        return all();
+    }
+    let mut word = [0u8; 16];
+    let n = os::arg(2, &mut word);
+    if check::same(&word[..n], b"refusal") {
+        if count < 5 {
+            return of_refusals();
+        }
+    }
+    if count == 3 {
+        return of_word(&word[..n]);
+    }
+    say::fault(b"help needs one word, or refusal NUMBER")
+}

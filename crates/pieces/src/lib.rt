@@ -1,0 +1,181 @@
+// The command over a payload in pieces: a stream is fed them one by one, and finished. Each answer names its piece; a
+// refused one is left out, and the last line counts those.
+ghost use Prim.Native.Nat.{_+_, _*_, _^_, _≤_, _<_};
+ghost use lib.ListN.{length};
+use answers::said::Said;
+use console::files;
+use console::numbers;
+use console::numbers::Number;
+use console::outputs;
+use console::say;
+use console::say::TROUBLE;
+use kinds::Known;
+use lessons::tally;
+use rules::Answer;
+use rules::Stream;
+
+// A stream, how many of its pieces were refused, the worst exit status so far, and whether all pieces could be read.
+struct Feeding {
+    stream: Stream,
+    refused: usize,
+    status: u8,
+    fine: bool,
+}
+
+// A piece is two arguments, BITS and PIECE: whether the one is a number and the other a file.
+fn is_piece(i: usize, j: usize) -> bool {
+    let Number::Is(_) = numbers::argument(i, b"BITS", b"0 to 14392") else {
+        return false;
+    };
+    files::is_there(j)
+}
+
+// Whether all the pieces are there, from argument 4 on.
+fn are_pieces(pieces: usize) -> bool
+    requires { ⌜ 4 + 2 * pieces < 2 ^ 64 ⌝ }
+{
+    for p in 0..pieces {
+        if !is_piece(4 + 2 * p, 5 + 2 * p) {
+            return false;
+        }
+    }
+    true
+}
+
+// A piece that could not be read: feeding stops.
+fn stopped(feeding: Feeding) -> Feeding {
+    let mut later = feeding;
+    later.fine = false;
+    later
+}
+
+// A piece that was refused by a number: the stream is as before.
+fn refused(feeding: Feeding, piece: usize, number: usize) -> Feeding {
+    let mut later = feeding;
+    let said = say::answer(Said::PieceRefused {
+        piece: piece,
+        number: number,
+    });
+    later.refused = tally::more(later.refused);
+    later.status = say::worse(later.status, said);
+    later
+}
+
+// A piece that was accepted: the stream is the later one.
+fn held(feeding: Feeding, piece: usize, stream: Stream) -> Feeding {
+    let said = say::answer(Said::Held {
+        piece: piece,
+        bits: stream.held,
+    });
+    Feeding {
+        stream: stream,
+        refused: feeding.refused,
+        status: say::worse(feeding.status, said),
+        fine: true,
+    }
+}
+
+// Feeds the bytes of a piece to the stream, and says what it answers.
+fn fed(feeding: Feeding, piece: usize, bits: usize, bytes: &[u8]) -> Feeding {
+    // A file that fills the buffer may go on: it is too long.
+    if bytes.len() == 65536 {
+        return refused(feeding, piece, 2);
+    }
+    let stream = feeding.stream;
+    let step = stream::piece(stream, bits, bytes);
+    let answer = step.answer;
+    let later = step.stream;
+    match answer {
+        Answer::Done => held(feeding, piece, later),
+        Answer::Refused(number) => refused(feeding, piece, number),
+    }
+}
+
+// Feeds a piece, number p from 0 on.
+fn feed(feeding: Feeding, p: usize) -> Feeding
+    requires { ⌜ 6 + 2 * p < 2 ^ 64 ⌝ }
+{
+    let Number::Is(bits) = numbers::argument(4 + 2 * p, b"BITS", b"0 to 14392") else {
+        return stopped(feeding);
+    };
+    let mut bytes = io::large_buffer();
+    let got = files::read(5 + 2 * p, &mut bytes);
+    if !got.fine {
+        return stopped(feeding);
+    }
+    let size = got.size;
+    fed(feeding, p + 1, bits, &bytes[..size])
+}
+
+// Feeds all the pieces to a fresh stream.
+fn feed_all(pieces: usize) -> Feeding
+    requires { ⌜ 4 + 2 * pieces < 2 ^ 64 ⌝ }
+{
+    let stream = stream::begin();
+    let mut feeding = Feeding {
+        stream: stream,
+        refused: 0,
+        status: 0,
+        fine: true,
+    };
+    for p in 0..pieces {
+        feeding = feed(feeding, p);
+        if !feeding.fine {
+            return feeding;
+        }
+    }
+    feeding
+}
+
+// Finishes the stream into OUT.
+fn finish(stream: Stream, delimiter: usize, known: Known, path: &[u8]) -> u8
+    requires { ⌜ length (now path) ≤ 4091 ⌝ }
+{
+    let mut tail = [0u8; 322];
+    let step = stream::finish(stream, delimiter, &mut tail);
+    let answer = step.answer;
+    match answer {
+        Answer::Done => outputs::write(known, path, &tail),
+        Answer::Refused(number) => say::answer(Said::Refused(number)),
+    }
+}
+
+// How many pieces were refused, where any was. Whoever reads the last line alone sees it.
+fn say_refused(count: usize) -> u8 {
+    if count == 0 {
+        return 0;
+    }
+    say::answer(Said::PiecesRefused(count))
+}
+
+// stream DELIMITER OUT [BITS PIECE]...
+pub fn feed_and_finish() -> u8 {
+    let count = os::arg_count();
+    if count < 4 {
+        return say::fault(b"stream needs DELIMITER OUT [BITS PIECE]");
+    }
+    if count % 2 != 0 {
+        return say::fault(b"a piece has two parts; type BITS PIECE");
+    }
+    let pieces = (count - 4) / 2;
+    let Number::Is(delimiter) = numbers::argument(2, b"DELIMITER", b"0 to 1023") else {
+        return TROUBLE;
+    };
+    let mut path = io::buffer();
+    let output = outputs::find(3, &mut path);
+    let to = output.size;
+    if to == 0 {
+        return TROUBLE;
+    }
+    if !are_pieces(pieces) {
+        return TROUBLE;
+    }
+    let feeding = feed_all(pieces);
+    if !feeding.fine {
+        return TROUBLE;
+    }
+    let later = feeding.stream;
+    let last = finish(later, delimiter, output.known, &path[..to]);
+    let refused = say_refused(feeding.refused);
+    say::worse(feeding.status, say::worse(last, refused))
+}

@@ -1,0 +1,239 @@
+// Files of vectors (docs/VECTORS.md): each payload is encoded, and the line word compared with the one given.
+mod digits;
+mod words;
+
+ghost use Rattle.io.specs.Counts.{Counts};
+use answers::said::Said;
+use console::files;
+use console::files::Got;
+use console::numbers;
+use console::numbers::Number;
+use console::say;
+use lessons::tally;
+use lessons::tally::Tally;
+use rules::Answer;
+use words::Sought;
+
+// What was expected of a line that is not as it should be. 0 stands for a line that is.
+const FINE: u8 = 0;
+
+const WORD: u8 = 1;
+
+const NUMBER: u8 = 2;
+
+const SMALLER: u8 = 3;
+
+const DIGITS: u8 = 4;
+
+const FEWER: u8 = 5;
+
+const NO_MORE: u8 = 6;
+
+const END: u8 = 7;
+
+// What was read of a vector, and of the file so far. The payload and the line are counts of hexadecimal digits.
+struct Reading {
+    bits: usize,
+    delimiter: usize,
+    payload: usize,
+    line: usize,
+    is_open: bool,
+    expected: u8,
+    vectors: usize,
+    tally: Tally,
+}
+
+// Before a vector's first line. What a vector does not say is refused: it has no payload bits, and a delimiter that is
+// none.
+fn before_vector(vectors: usize, tally: Tally) -> Reading {
+    Reading {
+        bits: 0,
+        delimiter: 1024,
+        payload: 0,
+        line: 0,
+        is_open: false,
+        expected: FINE,
+        vectors: vectors,
+        tally: tally,
+    }
+}
+
+// Whether the payload is encoded into this line word.
+fn is_right(bits: usize, payload: &[u8], delimiter: usize, line: &[u8]) -> bool {
+    let mut made = [0u8; 2121];
+    let answer = line::encode(bits, payload, delimiter, &mut made);
+    match answer {
+        Answer::Done => {
+            let n = numbers::line_bytes(bits, &made);
+            check::same(&made[..n], line)
+        }
+        Answer::Refused(_) => false,
+    }
+}
+
+// How many bytes so many digits take, two a byte.
+fn bytes_of(digits: usize, bytes: &[u8]) -> usize
+    ensures { λ r. ⌜ Counts r (now (bytes .entry)) ⌝ }
+{
+    if 5000 < digits {
+        return 0;
+    }
+    io::count((digits / 2) as isize, bytes)
+}
+
+// The line of a vector.
+fn said(right: bool, vector: usize) -> u8 {
+    if right {
+        return say::answer(Said::RightVector(vector));
+    }
+    say::answer(Said::WrongVector(vector))
+}
+
+// The end of a vector: it is run, and its line said.
+fn end(reading: Reading, payload: &[u8], line: &[u8]) -> Reading {
+    let vectors = tally::more(reading.vectors);
+    let n = bytes_of(reading.payload, payload);
+    let m = bytes_of(reading.line, line);
+    let right = is_right(reading.bits, &payload[..n], reading.delimiter, &line[..m]);
+    let tally = tally::count(reading.tally, right, said(right, vectors));
+    before_vector(vectors, tally)
+}
+
+// What was expected where this was read of a number, or of digits.
+fn expected(told: Number, nothing: u8, large: u8) -> u8 {
+    match told {
+        Number::Is(_) => FINE,
+        Number::Nothing => nothing,
+        Number::TooLarge => large,
+    }
+}
+
+// One line of the file, by its first word and what comes after it.
+fn take_words(
+    reading: Reading,
+    name: &[u8],
+    rest: &[u8],
+    payload: &mut [u8],
+    line: &mut [u8],
+) -> Reading {
+    let mut later = reading;
+    later.is_open = true;
+    if check::same(name, b"bits") {
+        let told = numbers::read(rest);
+        later.bits = numbers::value(told);
+        later.expected = expected(told, NUMBER, SMALLER);
+        return later;
+    }
+    if check::same(name, b"delimiter") {
+        let told = numbers::read(rest);
+        later.delimiter = numbers::value(told);
+        later.expected = expected(told, NUMBER, SMALLER);
+        return later;
+    }
+    if check::same(name, b"payload") {
+        let told = digits::put(payload, later.payload, rest);
+        later.payload = numbers::value(told);
+        later.expected = expected(told, DIGITS, FEWER);
+        return later;
+    }
+    if check::same(name, b"line") {
+        let told = digits::put(line, later.line, rest);
+        later.line = numbers::value(told);
+        later.expected = expected(told, DIGITS, FEWER);
+        return later;
+    }
+    if !check::same(name, b"end") {
+        later.expected = WORD;
+        return later;
+    }
+    if 0 < rest.len() {
+        later.expected = NO_MORE;
+        return later;
+    }
+    end(later, payload, line)
+}
+
+// One line of the file. An empty one, and one that begins with #, says nothing.
+fn take_line(reading: Reading, text: &[u8], payload: &mut [u8], line: &mut [u8]) -> Reading {
+    let n = words::content(text);
+    let words = &text[0..n];
+    let from = words::find(words, 0, Sought::Word);
+    if from == n {
+        return reading;
+    }
+    if words[from] == b'#' {
+        return reading;
+    }
+    let to = words::find(words, from, Sought::Blank);
+    let rest = words::find(words, to, Sought::Word);
+    take_words(reading, &words[from..to], &words[rest..n], payload, line)
+}
+
+// Says what was expected.
+fn say_expected(expected: u8) -> u8 {
+    match expected {
+        WORD => say::text(b"expected bits, delimiter, payload,\nline or end\n"),
+        NUMBER => say::text(b"expected a number in decimal digits\n"),
+        SMALLER => say::text(b"expected a smaller number\n"),
+        DIGITS => say::text(b"expected two hexadecimal digits a byte\n"),
+        FEWER => say::text(b"expected fewer digits\n"),
+        NO_MORE => say::text(b"expected nothing after end\n"),
+        _ => say::text(b"expected end\n"),
+    }
+}
+
+// The tally after the last line that was read. A vector that is still open is wrong.
+fn told(reading: Reading, lines: usize) -> Tally {
+    let mut expected = reading.expected;
+    let mut tally = reading.tally;
+    if !reading.is_open {
+        if reading.vectors == 0 {
+            tally.status = say::worse(tally.status, say::answer(Said::NoVectors));
+        }
+        return tally;
+    }
+    if expected == FINE {
+        expected = END;
+    }
+    let first = say::answer(Said::WrongLine(lines));
+    tally::count(tally, false, say::worse(first, say_expected(expected)))
+}
+
+// Runs every vector of a text, a line each. It stops at the first line that is not as expected.
+pub fn run(text: &[u8], tally: Tally) -> Tally {
+    let mut payload = [0u8; 1800];
+    let mut line = [0u8; 2122];
+    let mut reading = before_vector(0, tally);
+    let mut lines = 0;
+    let mut from = words::begin(text);
+    while from < text.len() {
+        let to = words::find(text, from, Sought::LineEnd);
+        reading = take_line(reading, &text[from..to], &mut payload, &mut line);
+        lines = tally::more(lines);
+        if reading.expected != FINE {
+            break;
+        }
+        if to == text.len() {
+            break;
+        }
+        from = to + 1;
+    }
+    told(reading, lines)
+}
+
+// Reads the file of vectors that an argument names, or else vectors.txt in this folder, if it is there. No file has no
+// vectors.
+pub fn read(room: &mut [u8]) -> Got
+    ensures { λ r. ⌜ Counts (r .size) (now (room .exit)) ⌝ }
+{
+    if os::arg_count() == 3 {
+        return files::read(2, room);
+    }
+    if files::known(b"vectors.txt").fine {
+        return files::read_at(b"vectors.txt", room);
+    }
+    Got {
+        fine: true,
+        size: 0,
+    }
+}
