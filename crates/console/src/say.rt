@@ -2,7 +2,7 @@
 // is and then, on a line of its own, the name of the file. Every function tells an exit status.
 ghost use mathlib.Core.Path.{_≡_};
 ghost use mathlib.Core.Logic.{_⊎_};
-ghost use Prim.Native.Nat.{_≤_, max};
+ghost use Prim.Native.Nat.{_+_, _≤_, min, max};
 ghost use lib.ListN.{length};
 ghost use Rattle.answers.specs.Answers.{statusOf};
 use answers::lines;
@@ -93,11 +93,20 @@ pub fn file(words: &[u8], name: &[u8]) -> u8 {
     fault(b"")
 }
 
-// Tells the exit status to the script. A lost answer is said now, once, and counts as trouble with a file.
-pub fn exit(status: u8) {
-    let mut told = status;
-    if status == LOST {
-        told = fault(b"answers lost: no room to write them");
+// The digit of an exit status. A lost answer counts as trouble.
+fn digit(status: u8) -> u8
+    ensures { λ r. ⌜ r ≡ 48 + min status 3 ⌝ }
+{
+    if status < TROUBLE {
+        return b'0' + status;
     }
-    libc::write(STATUS_FILENO, &[b'0' + told % 4]);
+    b'3'
+}
+
+// Tells the exit status to the script. That answers were lost is said now, once.
+pub fn exit(status: u8) {
+    if status == LOST {
+        fault(b"answers lost: no room to write them");
+    }
+    libc::write(STATUS_FILENO, &[digit(status)]);
 }
