@@ -3,9 +3,13 @@
 --   lineOf s              the line of the answer s
 --   statusOf s            0: as it should be; 1: a verdict other than accepted, or something wrong; 2: refused
 --   lessonLine right n    the line of a lesson: right or wrong, and its name n
+--   trouble, lost         statuses that go with no answer: wrong use, or trouble with a file; an answer was not written
+--   Told s r              r is the status s, or lost
 --
 -- Believe this file; nothing here is proved.
+use mathlib.Core.Path.{_≡_}
 use mathlib.Core.Bool.{Bool, cond}
+use mathlib.Core.Logic.{_⊎_}
 use mathlib.Core.List.{List, _++_}
 use Prim.Native.Nat.{ℕ}
 use lib.Dec.{eqb}
@@ -62,3 +66,12 @@ statusOf (Wrong count) = cond (eqb count 0) 0 1
 
 abbrev pub lessonLine : Bool → List ℕ → List ℕ
 lessonLine right name = cond right (text "right ") (text "wrong ") ++ name ++ newLine
+
+abbrev pub trouble : ℕ
+trouble = 3
+
+abbrev pub lost : ℕ
+lost = 4
+
+abbrev pub Told : ℕ → ℕ → Type 0
+Told s r = (r ≡ s) ⊎ (r ≡ lost)

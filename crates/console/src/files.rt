@@ -1,8 +1,10 @@
 // Files of bytes to read. One is read as far as there is room, so that whoever reads a byte too many sees it.
+ghost use mathlib.Core.Path.{_≡_};
 ghost use lib.ListN.{length};
 ghost use Prim.Native.Nat.{_≤_};
 ghost use Rattle.io.specs.Counts.{Counts};
 ghost use Rattle.libc.specs.Io.{Ended};
+ghost use Rattle.answers.specs.Answers.{trouble};
 use crate::say;
 use kinds::Known;
 
@@ -49,27 +51,46 @@ fn fill(fd: i32, room: &mut [u8]) -> Got
     }
 }
 
-// Why a file cannot be read.
-pub fn unreadable(error: i32, name: &[u8]) -> u8 {
-    if error == libc::ENOENT {
-        return say::file(b"no such file", name);
+// Says why a file cannot be read or written, by the error's number. What is missing, what is not allowed and what else
+// there may be differ from the one to the other.
+pub fn trouble(error: i32, missing: &[u8], denied: &[u8], other: &[u8], name: &[u8]) -> u8
+    ensures { λ r. ⌜ r ≡ trouble ⌝ }
+{
+    if error == libc::ENOENT || error == libc::ENOTDIR {
+        return say::file(missing, name);
     }
-    if error == libc::ENOTDIR {
-        return say::file(b"no such file", name);
+    if error == libc::EACCES || error == libc::EROFS {
+        return say::file(denied, name);
     }
     if error == libc::EISDIR {
         return say::file(b"is a folder", name);
     }
-    if error == libc::EACCES {
-        return say::file(b"not readable", name);
+    if error == libc::EPERM {
+        return say::file(b"not permitted", name);
     }
-    if error == libc::ENAMETOOLONG {
-        return say::file(b"the name is too long", name);
+    if error == libc::EEXIST {
+        return say::file(b"in the way; remove it", name);
+    }
+    if error == libc::ENOSPC || error == libc::EFBIG {
+        return say::file(b"no room", name);
     }
     if error == libc::ELOOP {
         return say::file(b"too many links", name);
     }
-    say::file(b"cannot be read", name)
+    if error == libc::ENAMETOOLONG {
+        return say::file(b"the name is too long", name);
+    }
+    say::file(other, name)
+}
+
+fn unreadable(error: i32, name: &[u8]) -> u8 {
+    trouble(
+        error,
+        b"no such file",
+        b"not readable",
+        b"cannot be read",
+        name,
+    )
 }
 
 // Reads the file at a path, or says why it cannot.

@@ -33,36 +33,14 @@ fn nothing() -> Known {
     }
 }
 
-// Why a file cannot be written.
 fn unwritable(error: i32, name: &[u8]) -> u8 {
-    if error == libc::ENOENT {
-        return say::file(b"no such folder", name);
-    }
-    if error == libc::ENOTDIR {
-        return say::file(b"no such folder", name);
-    }
-    if error == libc::EACCES {
-        return say::file(b"not writable", name);
-    }
-    if error == libc::EROFS {
-        return say::file(b"not writable", name);
-    }
-    if error == libc::EPERM {
-        return say::file(b"not permitted", name);
-    }
-    if error == libc::EEXIST {
-        return say::file(b"in the way; remove it", name);
-    }
-    if error == libc::ENOSPC {
-        return say::file(b"no room", name);
-    }
-    if error == libc::EFBIG {
-        return say::file(b"no room", name);
-    }
-    if error == libc::ELOOP {
-        return say::file(b"too many links", name);
-    }
-    say::file(b"cannot be written", name)
+    files::trouble(
+        error,
+        b"no such folder",
+        b"not writable",
+        b"cannot be written",
+        name,
+    )
 }
 
 // Whether this is a plain file. Where it is none, says what it is.

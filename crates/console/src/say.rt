@@ -1,10 +1,9 @@
 // What the program says: answers on standard output, each by one write; what is wrong on standard error, first what it
 // is and then, on a line of its own, the name of the file. Every function tells an exit status.
 ghost use mathlib.Core.Path.{_≡_};
-ghost use mathlib.Core.Logic.{_⊎_};
 ghost use Prim.Native.Nat.{_+_, _≤_, min, max};
 ghost use lib.ListN.{length};
-ghost use Rattle.answers.specs.Answers.{statusOf};
+ghost use Rattle.answers.specs.Answers.{statusOf, trouble, Told};
 use answers::lines;
 use answers::said;
 use answers::said::Said;
@@ -31,7 +30,7 @@ pub fn worse(a: u8, b: u8) -> u8
 }
 
 fn written(words: &[u8], status: u8) -> u8
-    ensures { λ r. ⌜ (r ≡ status) ⊎ (r ≡ 4) ⌝ }
+    ensures { λ r. ⌜ Told status r ⌝ }
 {
     if io::write_all(STDOUT_FILENO, words) {
         return status;
@@ -41,7 +40,7 @@ fn written(words: &[u8], status: u8) -> u8
 
 // An answer.
 pub fn answer(answer: Said) -> u8
-    ensures { λ r. ⌜ (r ≡ statusOf answer) ⊎ (r ≡ 4) ⌝ }
+    ensures { λ r. ⌜ Told (statusOf answer) r ⌝ }
 {
     let mut line = [0u8; 64];
     let n = said::line(answer, &mut line);
@@ -51,7 +50,7 @@ pub fn answer(answer: Said) -> u8
 // The line of a lesson. That it is wrong is told by the totals.
 pub fn lesson(right: bool, name: &[u8]) -> u8
     requires { ⌜ length (now name) ≤ 50 ⌝ }
-    ensures { λ r. ⌜ (r ≡ 0) ⊎ (r ≡ 4) ⌝ }
+    ensures { λ r. ⌜ Told 0 r ⌝ }
 {
     let mut line = [0u8; 64];
     let n = said::lesson(right, name, &mut line);
@@ -59,19 +58,25 @@ pub fn lesson(right: bool, name: &[u8]) -> u8
 }
 
 // A text as it is given.
-pub fn text(words: &[u8]) -> u8 {
+pub fn text(words: &[u8]) -> u8
+    ensures { λ r. ⌜ Told 0 r ⌝ }
+{
     written(words, 0)
 }
 
 // What is wrong.
-pub fn fault(words: &[u8]) -> u8 {
+pub fn fault(words: &[u8]) -> u8
+    ensures { λ r. ⌜ r ≡ trouble ⌝ }
+{
     io::write_all(STDERR_FILENO, words);
     io::write_all(STDERR_FILENO, b"\n");
     TROUBLE
 }
 
 // What is wrong with a number, and what to type: its name, what is wrong and its range.
-pub fn wrong(name: &[u8], words: &[u8], range: &[u8]) -> u8 {
+pub fn wrong(name: &[u8], words: &[u8], range: &[u8]) -> u8
+    ensures { λ r. ⌜ r ≡ trouble ⌝ }
+{
     io::write_all(STDERR_FILENO, name);
     io::write_all(STDERR_FILENO, words);
     fault(range)
@@ -85,7 +90,9 @@ fn byte(byte: u8) {
 }
 
 // What is wrong with a file, and its name. Bytes that are no printable characters are shown by their numbers.
-pub fn file(words: &[u8], name: &[u8]) -> u8 {
+pub fn file(words: &[u8], name: &[u8]) -> u8
+    ensures { λ r. ⌜ r ≡ trouble ⌝ }
+{
     fault(words);
     for i in 0..name.len() {
         byte(name[i]);
@@ -95,7 +102,7 @@ pub fn file(words: &[u8], name: &[u8]) -> u8 {
 
 // The digit of an exit status. A lost answer counts as trouble.
 fn digit(status: u8) -> u8
-    ensures { λ r. ⌜ r ≡ 48 + min status 3 ⌝ }
+    ensures { λ r. ⌜ r ≡ 48 + min status trouble ⌝ }
 {
     if status < TROUBLE {
         return b'0' + status;
@@ -106,7 +113,7 @@ fn digit(status: u8) -> u8
 // Tells the exit status to the script. That answers were lost is said now, once.
 pub fn exit(status: u8) {
     if status == LOST {
-        fault(b"answers lost: no room to write them");
+        fault(b"answers lost: they could not be written");
     }
     libc::write(STATUS_FILENO, &[digit(status)]);
 }
