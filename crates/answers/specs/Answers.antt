@@ -5,6 +5,7 @@
 --   lessonLine right n    the line of a lesson: right or wrong, and its name n
 --   trouble, lost         statuses that go with no answer: wrong use, or trouble with a file; an answer was not written
 --   Told s r              r is the status s, or lost
+--   Says P s              the answer s is a judgement of which P holds
 --
 -- Believe this file; nothing here is proved.
 use mathlib.Core.Path.{_≡_}
@@ -75,3 +76,6 @@ lost = 4
 
 abbrev pub Told : ℕ → ℕ → Type 0
 Told s r = (r ≡ s) ⊎ (r ≡ lost)
+
+abbrev pub Says : (Judgement → Type 0) → Said → Type 0
+Says P s = (told : Judgement) × P told × (s ≡ Judged told)

@@ -4,6 +4,8 @@
 // long.
 ghost use Prim.Native.Nat.{_≤_};
 ghost use lib.ListN.{length};
+ghost use Rattle.rules.specs.Promises.{WordChecked, LineChecked};
+ghost use Rattle.answers.specs.Answers.{Says};
 use answers::said::Said;
 use console::files;
 use console::numbers;
@@ -86,6 +88,13 @@ pub fn complete() -> u8 {
     complete_into(output.known, &path[..to], bits, &mut word[..size])
 }
 
+// What is said of a full word.
+pub fn word_answer(bits: usize, word: &[u8]) -> Said
+    ensures { λ r. ⌜ Says (WordChecked bits (now (word .entry))) r ⌝ }
+{
+    Said::Judged(word::check(bits, word))
+}
+
 // word BITS WORD
 pub fn check_word() -> u8 {
     if os::arg_count() != 4 {
@@ -100,7 +109,14 @@ pub fn check_word() -> u8 {
         return TROUBLE;
     }
     let size = got.size;
-    say::answer(Said::Judged(word::check(bits, &word[..size])))
+    say::answer(word_answer(bits, &word[..size]))
+}
+
+// What is said of a line word.
+pub fn line_answer(bits: usize, line: &[u8], delimiter: usize) -> Said
+    ensures { λ r. ⌜ Says (LineChecked bits (now (line .entry)) delimiter) r ⌝ }
+{
+    Said::Judged(line::check(bits, line, delimiter))
 }
 
 // line BITS DELIMITER LINE
@@ -120,5 +136,5 @@ pub fn check_line() -> u8 {
         return TROUBLE;
     }
     let size = got.size;
-    say::answer(Said::Judged(line::check(bits, &line[..size], delimiter)))
+    say::answer(line_answer(bits, &line[..size], delimiter))
 }

@@ -188,7 +188,7 @@ pub fn find(i: usize, path: &mut [u8]) -> Output
     }
     let size = follow(path, n);
     if size == 0 {
-        say::fault(b"too many links to the output");
+        say::fault(b"the output's links lead too far");
         return none;
     }
     if LONGEST < size {
