@@ -4,9 +4,9 @@ use Prim.Native.Nat.{_-_, _^_}
 use Rattle.rules.specs.declared.Cause.the-variants.{Check}
 use Rattle.rules.specs.declared.Verdict.the-variants.{Accepted, Rejected}
 use Rattle.rules.specs.declared.Judgement.the-variants as judgement
-use Rattle.answers.specs.declared.said.Said.the-variants.{Judged, Written, Held, PieceRefused}
-use Rattle.answers.specs.declared.said.Said.the-variants.{PiecesRefused, Wrong}
-use Rattle.answers.specs.Texts.{text, digitsOf, shown}
+use Rattle.answers.specs.declared.Said.the-variants.{Judged, Written, Held, PieceRefused}
+use Rattle.answers.specs.declared.Said.the-variants.{PiecesRefused, Wrong}
+use Rattle.lines.specs.Texts.{text, digitsOf, shown}
 use Rattle.answers.specs.Answers.{lineOf}
 
 accepted : lineOf (Judged (judgement.Judged Accepted)) ≡ text "accepted\n"

@@ -18,11 +18,11 @@ use Rattle.rules.specs.declared.Cause.the-variants.{Shortened, Check, Parity, D
 use Rattle.rules.specs.declared.Verdict.the-variants.{Accepted, Rejected}
 use Rattle.rules.specs.declared.Judgement.{Judgement}
 use Rattle.rules.specs.declared.Judgement.the-variants as judgement
-use Rattle.answers.specs.declared.said.Said.{Said}
-use Rattle.answers.specs.declared.said.Said.the-variants.{Judged, Written, Refused, Held, PieceRefused}
-use Rattle.answers.specs.declared.said.Said.the-variants.{PiecesRefused, RightVector, WrongVector, WrongLine}
-use Rattle.answers.specs.declared.said.Said.the-variants.{NoVectors, Right, Wrong}
-use Rattle.answers.specs.Texts.{text, newLine, fact, facts, tally}
+use Rattle.answers.specs.declared.Said.{Said}
+use Rattle.answers.specs.declared.Said.the-variants.{Judged, Written, Refused, Held, PieceRefused}
+use Rattle.answers.specs.declared.Said.the-variants.{PiecesRefused, RightVector, WrongVector, WrongLine}
+use Rattle.answers.specs.declared.Said.the-variants.{NoVectors, Right, Wrong}
+use Rattle.lines.specs.Texts.{text, newLine, fact, facts, tally}
 
 abbrev pub judgementLine : Judgement → List ℕ
 judgementLine (judgement.Judged Accepted) = text "accepted" ++ newLine

@@ -15,10 +15,10 @@ use Rattle.theorems.specs.Exactly.{Exactly}
 use Rattle.theorems.specs.Accepted.{GoodWord, GoodLine}
 use Rattle.theorems.proofs.FullWords.{word-accepted}
 use Rattle.theorems.proofs.Lines.{line-accepted}
-use Rattle.answers.specs.Texts.{text}
+use Rattle.lines.specs.Texts.{text}
 use Rattle.answers.specs.Answers.{lineOf, statusOf, Says}
-use Rattle.answers.specs.declared.said.Said.{Said}
-use Rattle.answers.specs.declared.said.Said.the-variants as said
+use Rattle.answers.specs.declared.Said.{Said}
+use Rattle.answers.specs.declared.Said.the-variants as said
 use Rattle.answers.proofs.Same.{accepted-alone, accepted-status}
 
 -- Seen s: what is seen of an answer, which of judgements is seen of the accepted one alone

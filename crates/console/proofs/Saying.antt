@@ -12,7 +12,7 @@ use native.Mathlib.Omega.{arith}
 use lib.ListN.{length, getD, length-append, List·getD-append}
 use lib.Seq.{getD-append-seam}
 use borrow.Author.Tests.{lt-ltb, le-ltb}
-use Rattle.answers.specs.Texts.{digitsOf, decimal}
+use Rattle.lines.specs.Texts.{digitsOf, decimal}
 use Rattle.console.specs.Spelled.{IsDigit, Digits, valueOf, Spelled}
 use Rattle.console.specs.declared.numbers.Number.the-variants.{Is}
 

@@ -1,5 +1,4 @@
-// What the programs share: answers and faults said in plain lines, decimal numbers, and files of bytes.
+// What the commands share: answers and faults said in plain lines, decimal numbers, and files of bytes to read.
 pub mod files;
 pub mod numbers;
-pub mod outputs;
 pub mod say;

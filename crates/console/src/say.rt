@@ -4,9 +4,7 @@ ghost use mathlib.Core.Path.{_≡_};
 ghost use Prim.Native.Nat.{_+_, _≤_, min, max};
 ghost use lib.ListN.{length};
 ghost use Rattle.answers.specs.Answers.{statusOf, trouble, Told};
-use answers::lines;
-use answers::said;
-use answers::said::Said;
+use answers::Said;
 use libc::STDERR_FILENO;
 use libc::STDOUT_FILENO;
 
@@ -43,8 +41,8 @@ pub fn answer(answer: Said) -> u8
     ensures { λ r. ⌜ Told (statusOf answer) r ⌝ }
 {
     let mut line = [0u8; 64];
-    let n = said::line(answer, &mut line);
-    written(&line[..n], said::status(answer))
+    let n = answers::line(answer, &mut line);
+    written(&line[..n], answers::status(answer))
 }
 
 // The line of a lesson. That it is wrong is told by the totals.
@@ -53,7 +51,7 @@ pub fn lesson(right: bool, name: &[u8]) -> u8
     ensures { λ r. ⌜ Told 0 r ⌝ }
 {
     let mut line = [0u8; 64];
-    let n = said::lesson(right, name, &mut line);
+    let n = answers::lesson(right, name, &mut line);
     written(&line[..n], 0)
 }
 

@@ -97,7 +97,8 @@ fn payload_place(place: usize, rows: &[usize]) -> bool {
     check::same(&checks, &expected)
 }
 
-// A sent parity place is in these checks, and in no other: of running checks with these rows alone, it is the sent parity.
+// A sent parity place is in these checks, and in no other: of running checks with these rows alone, it is the sent
+// parity.
 fn parity_place(place: usize, rows: &[usize]) -> bool {
     let mut checks = [0u8; 384];
     set_all(&mut checks, rows);

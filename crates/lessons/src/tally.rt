@@ -1,7 +1,7 @@
 // How many of what was tried is right, and how many wrong.
 ghost use mathlib.Core.Path.{_≡_};
 ghost use Rattle.lessons.specs.Tallies.{none, oneMore, counted};
-use answers::said::Said;
+use answers::Said;
 use console::say;
 
 // status: the worst exit status of the lines said so far.

@@ -2,11 +2,10 @@
 // refused one is left out, and the last line counts those.
 ghost use Prim.Native.Nat.{_+_, _*_, _^_, _≤_, _<_};
 ghost use lib.ListN.{length};
-use answers::said::Said;
+use answers::Said;
 use console::files;
 use console::numbers;
 use console::numbers::Number;
-use console::outputs;
 use console::say;
 use console::say::TROUBLE;
 use kinds::Known;

@@ -3,7 +3,7 @@ mod digits;
 mod words;
 
 ghost use Rattle.io.specs.Counts.{Counts};
-use answers::said::Said;
+use answers::Said;
 use console::files;
 use console::files::Got;
 use console::numbers;
