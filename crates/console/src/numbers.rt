@@ -77,8 +77,9 @@ pub fn value(number: Number) -> usize
     }
 }
 
-// The number that an argument spells. One that is longer than the room is too large, if it begins as a number.
-fn spelled(i: usize) -> Number {
+// The number that an argument of more than 64 bytes spells. One that is longer than the room is too large, if it begins
+// as a number.
+fn spelled_long(i: usize) -> Number {
     let mut text = io::large_buffer();
     let n = os::arg(i, &mut text);
     if os::errno() != libc::ENAMETOOLONG {
@@ -89,6 +90,16 @@ fn spelled(i: usize) -> Number {
         Number::Nothing => Number::Nothing,
         Number::TooLarge => Number::TooLarge,
     }
+}
+
+// The number that an argument spells. Few are long, and a large buffer takes time to clear.
+fn spelled(i: usize) -> Number {
+    let mut text = [0u8; 64];
+    let n = os::arg(i, &mut text);
+    if os::errno() != libc::ENAMETOOLONG {
+        return read(&text[..n]);
+    }
+    spelled_long(i)
 }
 
 // The number that an argument spells. What is wrong with it is said, with its name and the numbers to type.
