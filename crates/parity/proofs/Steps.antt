@@ -1,7 +1,7 @@
 -- The recipe as the code follows it: registers are bytes, and a step is one number.
 --
 --   registers x         the bytes x as registers of 256 bits
---   code c              the step c as a number: a million times its target, a thousand times its source, and its turn
+--   code c              the step c as a number in base 256: its target, its source and its turn
 --   coded k             step k of the recipe so, as the code's constant has it
 --   target, source, turn   the parts of such a number, as the code reads them
 --   Parts e c           the parts of e are those of the step c, and in range
@@ -38,7 +38,7 @@ abbrev pub registers : List ℕ → Blocks
 registers x = bits 256 (bit x)
 
 abbrev pub code : Step → ℕ
-code (add d s a) = 1000000 * d + 1000 * s + a
+code (add d s a) = 65536 * d + 256 * s + a
 
 abbrev codes : List Step → List ℕ
 codes [] = []
@@ -48,13 +48,13 @@ abbrev pub coded : ℕ → ℕ
 coded k = getD (codes (flat recipe)) k 0
 
 abbrev pub target : ℕ → ℕ
-target e = e / 1000000
+target e = e / 65536
 
 abbrev pub source : ℕ → ℕ
-source e = e / 1000 % 1000
+source e = e / 256 % 256
 
 abbrev pub turn : ℕ → ℕ
-turn e = e % 1000
+turn e = e % 256
 
 pub record Parts (e : ℕ) (c : Step) : Type 0 where
   pub same : c ≡ add (target e) (source e) (turn e)

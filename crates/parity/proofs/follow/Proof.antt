@@ -24,6 +24,10 @@ mul-parts c = search needs
 array-read-parts : tie.Need-array-read-parts Inv-loop μ-loop
 array-read-parts c = search needs
 
+cast-parts : tie.Need-cast-parts Inv-loop μ-loop
+unfolding recipe
+cast-parts c = omega (arith, coded-parts (c .before .loop .k) (omega arith) .target-below)
+
 step-requires : tie.Need-step-requires Inv-loop μ-loop
 unfolding recipe
 step-requires c κs =
@@ -63,6 +67,7 @@ follow-spec =
     loop-holds
     mul-parts
     array-read-parts
+    cast-parts
     step-requires
     add-k
     loop-less
