@@ -1,2 +1,3 @@
-pub mod AddsLaws
-pub mod OnesLaws
+mod Moving
+mod Searching
+mod OnesLaws

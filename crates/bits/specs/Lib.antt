@@ -1,1 +1,1 @@
-pub mod Adds
+pub mod Searches

@@ -1,14 +1,15 @@
 // Bits in bytes: read, added, moved in runs, cleared, copied, searched and counted.
 // Bit n is in byte n / 8, with weight 2 to the power n mod 8. A slice may have more bits than a usize can count.
+// Bits move by numbers of 64, and those that are left at the end by one number more.
 // Its functions serve the crates above, which show what they require; no user calls them.
 ghost use mathlib.Core.Path.{_≡_};
 ghost use mathlib.Core.List.{_++_};
 ghost use Prim.Native.Nat.{_+_, _*_, _/_, _%_, _^_, _≤_, _<_};
-ghost use lib.Count.{ones};
-ghost use lib.ListN.{length, getD, drop, replicate};
+ghost use lib.ListN.{length, drop, replicate};
 ghost use Rattle.rules.specs.Bits.{bit, need, placed};
 ghost use Rattle.rules.specs.Matrix.{total};
-ghost use Rattle.bits.specs.Adds.{Adds, FirstSet};
+ghost use Rattle.numbers.specs.Adds.{Adds};
+ghost use Rattle.bits.specs.Searches.{FirstSet, FirstDifference};
 
 // The bytes that a run of bits takes.
 pub fn needed(bits: usize) -> usize
@@ -17,40 +18,12 @@ pub fn needed(bits: usize) -> usize
     bits / 8 + (bits % 8 + 7) / 8
 }
 
-// The byte of bit place + further, and below that its weight. The sum itself may not fit.
-fn byte_of(place: usize, further: usize) -> usize
-    ensures { λ r. ⌜ r ≡ (place + further) / 8 ⌝ }
-{
-    place / 8 + further / 8 + (place % 8 + further % 8) / 8
-}
-
-fn weight_of(place: usize, further: usize) -> usize
-    ensures { λ r. ⌜ r ≡ (place + further) % 8 ⌝ }
-{
-    (place % 8 + further % 8) % 8
-}
-
-// The bit of a byte at a weight, read; and below that, added to.
-fn read(s: &[u8], byte: usize, weight: usize) -> u8
-    requires { ⌜ (byte < length (now s)) × (weight < 8) ⌝ }
-    ensures { λ r. ⌜ r ≡ getD (now (s .entry)) byte 0 / 2 ^ weight % 2 ⌝ }
-{
-    (s[byte] >> weight) % 2
-}
-
-fn add(s: &mut [u8], byte: usize, weight: usize, value: u8)
-    requires { ⌜ (byte < length (now s)) × (weight < 8) × (value < 2) ⌝ }
-    ensures { λ r. ⌜ Adds (now (s .entry)) (now (s .exit)) (placed (8 * byte + weight) 1 (λ t. value)) ⌝ }
-{
-    s[byte] = s[byte] ^ (value << weight);
-}
-
 // The bit at a place.
 pub fn bit_at(s: &[u8], place: usize) -> u8
     requires { ⌜ place < 8 * length (now s) ⌝ }
     ensures { λ r. ⌜ r ≡ bit (now (s .entry)) place ⌝ }
 {
-    read(s, place / 8, place % 8)
+    (s[place / 8] >> (place % 8)) % 2
 }
 
 // Adds a bit, mod 2, to the one at a place.
@@ -58,7 +31,18 @@ pub fn add_bit(s: &mut [u8], place: usize, value: u8)
     requires { ⌜ (place < 8 * length (now s)) × (value < 2) ⌝ }
     ensures { λ r. ⌜ Adds (now (s .entry)) (now (s .exit)) (placed place 1 (λ t. value)) ⌝ }
 {
-    add(s, place / 8, place % 8, value);
+    numbers::add_rest(s, place / 8, place % 8, value as u64, 1);
+}
+
+// Adds whole numbers of `from`, the bits from `start` on, to the bits of `s` from `at` on.
+fn add_numbers(s: &mut [u8], at: usize, from: &[u8], start: usize, whole: usize)
+    requires { ⌜ (at + 64 * whole ≤ 8 * length (now s)) × (start + 64 * whole ≤ 8 * length (now from)) ⌝ }
+    ensures { λ r. ⌜ Adds (now (s .entry)) (now (s .exit)) (placed at (64 * whole) (λ t. bit (now (from .entry)) (start + t))) ⌝ }
+{
+    for k in 0..whole {
+        let number = numbers::number_at(from, start / 8 + 8 * k, start % 8);
+        numbers::add_number(s, at / 8 + 8 * k, at % 8, number);
+    }
 }
 
 // Adds `count` bits of `from`, those from `start` on, to the bits of `s` from `at` on. Both places may be inside a byte.
@@ -66,10 +50,14 @@ pub fn add_run(s: &mut [u8], at: usize, from: &[u8], start: usize, count: usize)
     requires { ⌜ (at + count ≤ 8 * length (now s)) × (start + count ≤ 8 * length (now from)) ⌝ }
     ensures { λ r. ⌜ Adds (now (s .entry)) (now (s .exit)) (placed at count (λ t. bit (now (from .entry)) (start + t))) ⌝ }
 {
-    for t in 0..count {
-        let value = read(from, byte_of(start, t), weight_of(start, t));
-        add(s, byte_of(at, t), weight_of(at, t), value);
+    let whole = count / 64;
+    add_numbers(s, at, from, start, whole);
+    let left = count % 64;
+    if left == 0 {
+        return;
     }
+    let number = numbers::rest_at(from, start / 8 + 8 * whole, start % 8);
+    numbers::add_rest(s, at / 8 + 8 * whole, at % 8, number, left);
 }
 
 // Sets the first `count` bytes to 0.
@@ -97,19 +85,41 @@ pub fn first_set(s: &[u8], from: usize, to: usize) -> usize
     requires { ⌜ (from ≤ to) × (to ≤ 8 * length (now s)) ⌝ }
     ensures { λ r. ⌜ FirstSet (now (s .entry)) from to r ⌝ }
 {
-    for place in from..to {
-        if bit_at(s, place) == 1 {
-            return place;
+    let whole = (to - from) / 64;
+    for k in 0..whole {
+        let number = numbers::number_at(s, from / 8 + 8 * k, from % 8);
+        if number != 0 {
+            return from + 64 * k + numbers::lowest_one(number);
         }
+    }
+    let place = numbers::lowest_one(numbers::rest_at(s, from / 8 + 8 * whole, from % 8));
+    if place < (to - from) % 64 {
+        return from + 64 * whole + place;
     }
     to
 }
 
-// How many bits of a byte are 1.
-fn ones_in(byte: u8) -> usize
-    ensures { λ r. ⌜ r ≡ ones byte ⌝ }
+// The lowest of `count` places at which the bits of `s` from `at` on differ from those of `other` from `start` on; `count`
+// where they are alike.
+pub fn first_difference(s: &[u8], at: usize, other: &[u8], start: usize, count: usize) -> usize
+    requires { ⌜ (at + count ≤ 8 * length (now s)) × (start + count ≤ 8 * length (now other)) ⌝ }
+    ensures { λ r. ⌜ FirstDifference (λ n. bit (now (s .entry)) (at + n)) (λ n. bit (now (other .entry)) (start + n)) count r ⌝ }
 {
-    u8::count_ones(byte) as usize
+    let whole = count / 64;
+    for k in 0..whole {
+        let number = numbers::number_at(s, at / 8 + 8 * k, at % 8)
+            ^ numbers::number_at(other, start / 8 + 8 * k, start % 8);
+        if number != 0 {
+            return 64 * k + numbers::lowest_one(number);
+        }
+    }
+    let number = numbers::rest_at(s, at / 8 + 8 * whole, at % 8)
+        ^ numbers::rest_at(other, start / 8 + 8 * whole, start % 8);
+    let place = numbers::lowest_one(number);
+    if place < count % 64 {
+        return 64 * whole + place;
+    }
+    count
 }
 
 // How many bits of all of `s` are 1.
@@ -117,9 +127,10 @@ pub fn count_ones(s: &[u8]) -> usize
     requires { ⌜ 8 * length (now s) < 2 ^ 64 ⌝ }
     ensures { λ r. ⌜ r ≡ total (8 * length (now (s .entry))) (bit (now (s .entry))) ⌝ }
 {
+    let whole = s.len() / 8;
     let mut count: usize = 0;
-    for i in 0..s.len() {
-        count += ones_in(s[i]);
+    for k in 0..whole {
+        count += numbers::ones_in(numbers::load(s, 8 * k));
     }
-    count
+    count + numbers::ones_in(numbers::rest_at(s, 8 * whole, 0))
 }

@@ -2,7 +2,8 @@
 --
 --   bit<                      a bit is below 2
 --   bit-past                  past the end of a list every bit is 0
---   bit-xor                   a bit of an exclusive or is the sum mod 2
+--   bit-digit                 bit t of byte i
+--   bit-xor, bit-or           a bit of an exclusive or is the sum mod 2, and of an or the larger one
 --   bit-set, bit-set-other    a bit of a byte that was stored, and of another
 --   bit-take, bit-drop        a bit of the first k bytes, and of all from byte a on
 --   bit-front, bit-back       a bit of the first of two lists that are joined, and of the second
@@ -14,6 +15,7 @@
 --   mid-rest                  where all from a on is replaced
 --   bit-zeros                 a bit of zero bytes
 --   bit-cleared, bit-kept     a bit of s with its first k bytes cleared: one of these, and another
+--   numbers-same              numbers below 2 to the power n with the same n bits are equal
 --   bits-same                 lists of bytes of one length with the same bits are equal
 --   pack n f                  n bytes that hold the bits of f
 --   length-pack, bytes-pack   they are n, and each is below 256
@@ -21,11 +23,11 @@
 use mathlib.Core.Path.{_≡_, refl, sym, ap, _∙_}
 use mathlib.Core.Bool.{Bool}
 use mathlib.Core.List.{List, [], _∷_, _++_, append-nil}
-use Prim.Native.Nat.{ℕ, zero, suc, _+_, _-_, _*_, _/_, _%_, _^_, _≤_, _<_}
+use Prim.Native.Nat.{ℕ, zero, suc, max, _+_, _-_, _*_, _/_, _%_, _^_, _≤_, _<_}
 use native.Mathlib.Decide.{decLt}
 use native.Mathlib.Nat.{mod-lt, div-one, zero-div}
 use native.Mathlib.Omega.{arith}
-use lib.Bits.{bitXor, xor-shr, xor-mod}
+use lib.Bits.{bitOr, bitXor, or-shr, or-step, xor-shr, xor-mod}
 use lib.Dec.{eqb, eqb→eq, lit<}
 use lib.ListN.{length, getD, set, take, drop, replicate, length-append, length-take, length-drop, length-replicate}
 use lib.ListN.{drop-of-length-le, List·getD-append, List·getD-eq-default, getD-replicate}
@@ -36,6 +38,12 @@ use Rattle.rules.proofs.Tests.{every, every-at}
 
 pub bit< : (s : List ℕ) (n : ℕ) → bit s n < 2
 bit< s n = mod-lt _ (lit< tt)
+
+pub bit-digit : (s : List ℕ) (i t : ℕ) → t < 8 → bit s (8 * i + t) ≡ getD s i 0 / 2 ^ t % 2
+bit-digit s i t h =
+    let p : (8 * i + t) / 8 ≡ i = omega arith in
+    let q : (8 * i + t) % 8 ≡ t = omega arith in
+    rw (p, q)
 
 -- a bit of a byte that is 0, and of equal bytes
 bit-none : (s : List ℕ) (n : ℕ) → getD s (n / 8) 0 ≡ 0 → bit s n ≡ 0
@@ -59,6 +67,9 @@ bit-xor x y t =
     ap (λ (n : ℕ). n % 2) (xor-shr x y t)
     ∙ xor-mod (x / 2 ^ t) (y / 2 ^ t) 1
     ∙ xor-two (x / 2 ^ t % 2) (y / 2 ^ t % 2) (mod-lt _ (lit< tt)) (mod-lt _ (lit< tt))
+
+pub bit-or : (x y t : ℕ) → bitOr x y / 2 ^ t % 2 ≡ max (x / 2 ^ t % 2) (y / 2 ^ t % 2)
+bit-or x y t = ap (λ (n : ℕ). n % 2) (or-shr x y t) ∙ omega (arith, or-step (x / 2 ^ t) (y / 2 ^ t))
 
 pub bit-set : (s : List ℕ) (i v n : ℕ) → i < length s → n / 8 ≡ i → bit (set s i v) n ≡ v / 2 ^ (n % 8) % 2
 bit-set s i v n h e = rw (e, getD-set-same)
@@ -137,8 +148,7 @@ module _ (s : List ℕ) (k n : ℕ) where
 halved : (x t : ℕ) → x / 2 ^ suc t ≡ x / 2 / 2 ^ t
 halved x t = let e : suc t ≡ 1 + t = omega arith in rw e (sym (shr-shr x 1 t))
 
--- numbers below 2 to the power n with the same n bits are equal
-numbers-same : (n x y : ℕ) → x < 2 ^ n → y < 2 ^ n → ((t : ℕ) → t < n → x / 2 ^ t % 2 ≡ y / 2 ^ t % 2) → x ≡ y
+pub numbers-same : (n x y : ℕ) → x < 2 ^ n → y < 2 ^ n → ((t : ℕ) → t < n → x / 2 ^ t % 2 ≡ y / 2 ^ t % 2) → x ≡ y
 numbers-same zero x y hx hy b = omega arith
 numbers-same (suc n) x y hx hy b =
     let low : x % 2 ≡ y % 2 = simp div-one at (b 0 (omega arith)) in
@@ -149,11 +159,8 @@ numbers-same (suc n) x y hx hy b =
 pub bits-same : (s t : List ℕ) → Bytes s → Bytes t → length s ≡ length t → ((n : ℕ) → n < 8 * length s → bit s n ≡ bit t n) → s ≡ t
 bits-same s t hs ht long b =
     ext-getD 0 s t long
-    (λ i h. numbers-same 8 (getD s i 0) (getD t i 0) (hs i) (ht i) (λ k hk.
-    let p : (8 * i + k) / 8 ≡ i = omega arith in
-    let q : (8 * i + k) % 8 ≡ k = omega arith in
-    let e : bit s (8 * i + k) ≡ bit t (8 * i + k) = b (8 * i + k) (omega arith) in
-    rw (p, q) at e))
+    (λ i h. numbers-same 8 (getD s i 0) (getD t i 0) (hs i) (ht i)
+    (λ k l. sym (bit-digit s i k l) ∙ b (8 * i + k) (omega arith) ∙ bit-digit t i k l))
 
 -- the number whose n lowest bits are those of f
 joined : ℕ → (ℕ → ℕ) → ℕ

@@ -15,6 +15,8 @@
 --   placed-bits                  placed bits are bits
 --   placed-none                  no bits placed
 --   placed-same                  equal bits placed
+--   placed-moved                 zeros before b bits of x move them up
+--   placed-fewer                 bits from c on that are 0 can be left out
 --   placed-whole                 b bits of y from place h on, at their places, are all of y where it is 0 elsewhere
 use mathlib.Core.Path.{_≡_, refl, sym, ap, _∙_}
 use Prim.Native.Nat.{ℕ, _+_, _-_, _≤_, _<_}
@@ -105,6 +107,23 @@ placed-same h b x y e =
 pub placed-whole : (h b : ℕ) (y : ℕ → ℕ) (n : ℕ) → (n < h → y n ≡ 0) → (h + b ≤ n → y n ≡ 0) → placed h b (λ t. y (h + t)) n ≡ y n
 placed-whole h b y n below above =
     placed-each h b (λ t. y (h + t)) n (λ v. v ≡ y n) (λ l. sym (below l)) (λ l k. ap y (omega arith)) (λ l. sym (above l))
+
+pub placed-moved : (h w b : ℕ) (x : ℕ → ℕ) (n : ℕ) → placed h (w + b) (run w zeros x) n ≡ placed (h + w) b x n
+placed-moved h w b x n =
+    placed-each (h + w) b x n (λ v. placed h (w + b) (run w zeros x) n ≡ v)
+    (λ l. placed-each h (w + b) (run w zeros x) n (λ v. v ≡ 0) (λ k. refl) (λ k m. run-low w zeros x (n - h) (omega arith)) (λ k. refl))
+    (λ l k.
+    placed-in h (w + b) (run w zeros x) n (omega arith) (omega arith)
+    ∙ run-high w zeros x (n - h) (omega arith)
+    ∙ ap x (omega arith))
+    (λ l. placed-above h (w + b) (run w zeros x) n (omega arith))
+
+pub placed-fewer : (h b c : ℕ) (x : ℕ → ℕ) → c ≤ b → ((k : ℕ) → c ≤ k → x k ≡ 0) → (n : ℕ) → placed h b x n ≡ placed h c x n
+placed-fewer h b c x l none n =
+    placed-each h c x n (λ v. placed h b x n ≡ v)
+    (λ k. placed-below h b x n k)
+    (λ k m. placed-in h b x n k (omega arith))
+    (λ k. placed-each h b x n (λ v. v ≡ 0) (λ q. refl) (λ q r. none (n - h) (omega arith)) (λ q. refl))
 
 -- a single bit that stands for the first of x
 single : (h : ℕ) (x : ℕ → ℕ) (v : ℕ) → x 0 ≡ v → (n : ℕ) → placed h 1 x n ≡ placed h 1 (λ t. v) n

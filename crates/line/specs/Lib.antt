@@ -1,1 +1,1 @@
-pub mod Difference
+pub mod Payload

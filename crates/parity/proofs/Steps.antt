@@ -29,7 +29,7 @@ use Rattle.laws.proofs.Runs.{placed-in, placed-each}
 use Rattle.recipes.proofs.Sums.{_⊕_}
 use Rattle.recipes.proofs.Recipe.{Blocks, Near, Step, add, step, follow, flat, only, follow-more, step-near}
 use Rattle.recipes.proofs.Places.{bits}
-use Rattle.bits.specs.Adds.{Adds}
+use Rattle.numbers.specs.Adds.{Adds}
 use Rattle.parity.specs.Registers.{addend}
 use Rattle.parity.proofs.Recipe.{recipe}
 use Rattle.parity.proofs.Single.{made, parity-found-own}

@@ -5,7 +5,7 @@ ghost use Prim.Native.Nat.{ℕ, _≤_, _<_};
 ghost use lib.ListN.{length, take, drop};
 ghost use Rattle.rules.specs.Bits.{bit};
 ghost use Rattle.rules.specs.Words.{OwnChecks};
-ghost use Rattle.bits.specs.Adds.{Adds};
+ghost use Rattle.numbers.specs.Adds.{Adds};
 ghost use Rattle.parity.specs.Registers.{addend};
 
 // The recipe, a step to a line: its target, its source and its turn, two hexadecimal digits each.
@@ -280,9 +280,7 @@ fn step(registers: &mut [u8], target: usize, source: usize, turn: usize)
     requires { ⌜ (length (now registers) ≡ 1984) × (target < 62) × (source < 62) × (turn < 256) ⌝ }
     ensures { λ r. ⌜ Adds (now (registers .entry)) (now (registers .exit)) (addend (now (registers .entry)) target source turn) ⌝ }
 {
-    let mut block = [0u8; 32];
-    bits::copy(&mut block, &registers[32 * source..32 * source + 32]);
-    turning::add_turned(&mut registers[32 * target..32 * target + 32], &block, turn);
+    turning::add_within(registers, 32 * target, 32 * source, turn);
 }
 
 // Follows the recipe: from checks, and zeros after them, to a parity that has these checks as its own.

@@ -11,7 +11,7 @@ use lib.ListN.{length}
 use Rattle.rules.specs.Bits.{bit}
 use Rattle.rules.specs.Refusals.{someShortened}
 use Rattle.laws.proofs.Bits.{bit-past}
-use Rattle.bits.specs.Adds.{FirstSet}
+use Rattle.bits.specs.Searches.{FirstSet}
 
 module _ (K : ℕ) (w : List ℕ) (e : ℕ) where
   pub shortened-found : (p : ℕ) → e ≤ 14592 → FirstSet w K e p → p < e → someShortened K w .applies

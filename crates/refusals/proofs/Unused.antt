@@ -11,7 +11,7 @@ use native.Mathlib.Omega.{arith}
 use lib.ListN.{length, take, drop}
 use Rattle.rules.specs.Bits.{bit, need, UnusedSet}
 use Rattle.laws.proofs.Bits.{bit-past, bit-part}
-use Rattle.bits.specs.Adds.{FirstSet}
+use Rattle.bits.specs.Searches.{FirstSet}
 
 module _ (s : List ℕ) (b : ℕ) (l : length s ≡ need b) where
   pub unused-none : b % 8 ≡ 0 → UnusedSet s b → ⊥

@@ -7,6 +7,7 @@
 --   added-block    all twelve entries add the block
 --   blocks-none    no blocks add nothing
 --   blocks-join    blocks and those after them
+--   first-blocks   blocks 0 to e - 1 of a word are its first 256 e places, and nothing after them
 --   blocks-piece   where b bits of p were added at h to a word of zeros, the blocks that have these places are those bits alone
 use mathlib.Core.Path.{_≡_, refl, sym, ap, _∙_}
 use mathlib.Core.List.{List}
@@ -22,12 +23,12 @@ use Rattle.rules.specs.Streams.{Added}
 use Rattle.rules.proofs.Checks.{block-of, local-of}
 use Rattle.rules.proofs.TableLaws.{entry-range}
 use Rattle.laws.proofs.Bits.{bit<, bit-zeros}
-use Rattle.laws.proofs.Runs.{run-low, run-join, placed-below, placed-above, placed-each, placed-bits}
+use Rattle.laws.proofs.Runs.{run-low, run-none, run-same, run-join, placed-below, placed-above, placed-each, placed-bits}
 use Rattle.laws.proofs.Runs.{placed-none, placed-same, placed-whole}
 use Rattle.laws.proofs.Columns.{turn-none, turn-some, check-column}
 use Rattle.laws.proofs.Running.{added-none, added-as, added-join}
-use Rattle.bits.specs.Adds.{Adds}
-use Rattle.bits.proofs.AddsLaws.{adds-then, adds-as}
+use Rattle.numbers.specs.Adds.{Adds}
+use Rattle.numbers.proofs.AddsLaws.{adds-then, adds-as}
 use Rattle.running.specs.Running.{blocks, taken}
 
 module _ (w : List ℕ) (i j : ℕ) where
@@ -88,3 +89,11 @@ module _ (w p : List ℕ) (h b : ℕ) (q : Adds (replicate 1824 0) w (placed h b
       (λ l. piece-bit n ∙ placed-below h b (bit p) n (omega arith))
       (λ l. piece-bit n ∙ placed-above h b (bit p) n (omega arith))
       ∙ piece-bit n
+
+pub first-blocks : (w : List ℕ) (e n : ℕ) → blocks w 0 e n ≡ run (256 * e) (bit w) zeros n
+first-blocks w e n =
+    let all : e - 0 ≡ e = omega arith in
+    ap (λ (m : ℕ). run 0 zeros (run (256 * m) (λ t. bit w (0 + t)) zeros) n) all
+    ∙ run-none zeros (run (256 * e) (λ t. bit w (0 + t)) zeros) n
+    ∙ run-same (256 * e) (λ t. bit w (0 + t)) zeros (bit w) zeros
+    (λ t h. let z : 0 + t ≡ t = omega arith in rw z) (λ t. refl) n

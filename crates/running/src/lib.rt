@@ -9,7 +9,7 @@ ghost use Rattle.rules.specs.Bits.{bit, placed};
 ghost use Rattle.rules.specs.Matrix.{entry};
 ghost use Rattle.rules.specs.Table.{fibre, lines};
 ghost use Rattle.rules.specs.Streams.{Added};
-ghost use Rattle.bits.specs.Adds.{Adds};
+ghost use Rattle.numbers.specs.Adds.{Adds};
 ghost use Rattle.running.specs.Running.{blocks, taken};
 
 // Adds what an entry takes from block j of the word to the part of block row i. A zero block takes nothing.

@@ -54,7 +54,7 @@ pub fn finish(stream: Stream, delimiter: usize, line: &mut [u8]) -> Step
     let checks = stream.checks;
     let mut parity = [0u8; 384];
     parity::solve(&checks, &mut parity);
-    writing::write(line, 0, &checks, &parity, delimiter);
+    writing::write_tail(line, &parity, delimiter);
     let next = begin();
     Step {
         answer: Answer::Done,

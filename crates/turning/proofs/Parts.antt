@@ -9,8 +9,8 @@ use lib.ListN.{length, take, drop}
 use Rattle.rules.specs.Bits.{bit, zeros, run, placed}
 use Rattle.laws.proofs.Bits.{mid, bit-part}
 use Rattle.laws.proofs.Runs.{run-low, placed-same}
-use Rattle.bits.specs.Adds.{Adds}
-use Rattle.bits.proofs.AddsLaws.{adds-as, adds-mid}
+use Rattle.numbers.specs.Adds.{Adds}
+use Rattle.numbers.proofs.AddsLaws.{adds-as, adds-mid}
 use Rattle.turning.specs.Turning.{turned}
 
 pub part-turned : (s w p : List ℕ) (i j a : ℕ) → 32 * i + 32 ≤ length s

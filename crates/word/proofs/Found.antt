@@ -22,10 +22,10 @@ use Rattle.rules.proofs.Counting.{howMany-none, howMany-some}
 use Rattle.rules.proofs.Checks.{check-below, check-same}
 use Rattle.laws.proofs.Bits.{bit-zeros}
 use Rattle.laws.proofs.Runs.{run-low}
-use Rattle.bits.specs.Adds.{FirstSet}
+use Rattle.bits.specs.Searches.{FirstSet}
 use Rattle.running.specs.Running.{blocks}
 use Rattle.rows.specs.Scan.{Scanned}
-use Rattle.word.proofs.Blocks.{first-blocks}
+use Rattle.running.proofs.Blocks.{first-blocks}
 
 module _ {w : List ℕ} {K p : ℕ} (f : FirstSet w K 14592 p) where
   pub shortened-lowest : p < 14592 → Lowest (ShortenedSet K (bit w)) p

@@ -1,78 +1,87 @@
--- A line word, written in two runs to cleared bytes.
+-- A line word, written by adding runs to cleared bytes.
 --
---   line-written    the payload's bits and then the tail, added to cleared bytes, are the line word
---   tail-written    a line word with no payload is its tail
+--   written-cleared    cleared bytes are written with zeros
+--   written-added      what is added to written bits, below their end, is written with them
+--   payload-written    the payload's bits, added to zeros
+--   tail-written       the tail, added to zeros
+--   line-written       the tail, added after a payload that is written
 use mathlib.Core.Path.{_≡_, refl, sym, ap, _∙_}
 use mathlib.Core.List.{List, _++_}
 use Prim.Native.Nat.{ℕ, _+_, _-_, _*_, _%_, _≤_, _<_}
 use native.Mathlib.Omega.{arith}
 use lib.Dec.{lit<}
 use lib.ListN.{length, drop, replicate, length-drop, length-append, length-replicate}
-use lib.Seq.{getD-drop}
+use lib.Seq.{getD-drop, drop-at}
 use Rattle.rules.specs.Bits.{bit, Bytes, need, zeros, run, placed, Written}
-use Rattle.rules.specs.Words.{digit, tail, lineWord, lineBits}
-use Rattle.laws.proofs.Bits.{bit<, bit-drop, bit-cleared, bit-kept, bits-same}
-use Rattle.laws.proofs.Runs.{run-low, run-high, run-below, run-same, run-none, run-join, placed-same}
-use Rattle.bits.specs.Adds.{Adds}
+use Rattle.rules.specs.Words.{digit, padded, tail, tailBits, lineWord, lineBits}
+use Rattle.laws.proofs.Bits.{bit<, bit-drop, bit-cleared, bits-same}
+use Rattle.laws.proofs.Runs.{run-low, run-high, run-each, run-below, run-same, run-none, placed-each, placed-below, placed-in, placed-above}
+use Rattle.numbers.specs.Adds.{Adds}
 
-module _ (K : ℕ) (u : ℕ → ℕ) (p : List ℕ) (d : ℕ) (bits : (n : ℕ) → u n < 2) where
-  -- the line word as the sum of its two runs
-  line-sum : (n : ℕ) → placed 0 K u n + placed K 2570 (tail p d) n ≡ run (K + 2570) (lineWord K u p d) zeros n
-  line-sum n =
-      rw (run-none zeros (run K u zeros) n)
-      (sym
-      (run-join K 2570 (lineWord K u p d) n
-      ∙ rw (
-        run-same K (lineWord K u p d) zeros u zeros (λ k l. run-low K u (tail p d) k l) (λ k. refl) n,
-        placed-same K 2570 (λ t. lineWord K u p d (K + t)) (tail p d)
-            (λ t l. let e : K + t - K ≡ t = omega arith in run-high K u (tail p d) (K + t) (omega arith) ∙ rw e) n,
-      )))
-
-  tail-below : (n : ℕ) → tail p d n < 2
-  tail-below = run-below 2560 (bit p) (run 10 (digit d) zeros) (λ n l. bit< p n) (run-below 10 (digit d) zeros (λ n l. omega arith) (λ n. lit< tt))
-
-  line-below : (n : ℕ) → run (K + 2570) (lineWord K u p d) zeros n < 2
-  line-below = run-below (K + 2570) (lineWord K u p d) zeros (λ n l. run-below K u (tail p d) (λ n l. bits n) tail-below n) (λ n. lit< tt)
-
-  module _ (s l m t : List ℕ) (k : ℕ) (hk : k ≡ need (K + 2570)) (fits : k ≤ length s) (cleared : l ≡ replicate k 0 ++ drop k s)
-      (a : Adds l m (placed 0 K u)) (b : Adds m t (placed K 2570 (tail p d))) (bs : Bytes s) (bt : Bytes t) where
-    cleared-length : length l ≡ length s
-    cleared-length = ap length cleared ∙ simp (length-append, length-replicate, length-drop) (omega arith)
-
-    added : (n : ℕ) → bit t n ≡ (bit l n + run (K + 2570) (lineWord K u p d) zeros n) % 2
-    added n = omega (arith, a .each n, b .each n, line-sum n)
-
-    within : (n : ℕ) → n < 8 * k → bit t n ≡ run (K + 2570) (lineWord K u p d) zeros n
-    within n h = omega (arith, added n, ap (λ (l : List ℕ). bit l n) cleared ∙ bit-cleared s k n h, line-below n)
-
-    past : (n : ℕ) → bit (drop k t) n ≡ bit (drop k s) n
-    past n =
-        bit-drop t k n
-        ∙ omega (
-          arith,
-          added (8 * k + n),
-          ap (λ (l : List ℕ). bit l (8 * k + n)) cleared ∙ bit-kept s k (8 * k + n) (omega arith),
-          bit< s (8 * k + n),
-          run-high (K + 2570) (lineWord K u p d) zeros (8 * k + n) (omega arith),
-        )
-        ∙ sym (bit-drop s k n)
-
-    bytes-drop : (s : List ℕ) → Bytes s → Bytes (drop k s)
-    bytes-drop s h i = rw (getD-drop k s i 0) (h (k + i))
-
-    line-length : length t ≡ length s
-    line-length = b .length-same ∙ a .length-same ∙ cleared-length
-
-    pub line-written : Written (lineBits K) (lineWord K u p d) s t
-    line-written = record {
-      length-same = line-length;
-      bits = λ n h. within n (omega arith);
-      after = rw (← hk) (bits-same (drop k t) (drop k s) (bytes-drop t bt) (bytes-drop s bs) (simp length-drop (omega (arith, line-length))) (λ n h. past n));
-    }
-
-pub tail-written : (u : ℕ → ℕ) (p : List ℕ) (d : ℕ) (s t : List ℕ) → Written 2570 (lineWord 0 u p d) s t → Written 2570 (tail p d) s t
-tail-written u p d s t w = record {
-  length-same = w .length-same;
-  bits = λ n h. w .bits n h ∙ run-same 2570 (lineWord 0 u p d) zeros (tail p d) zeros (λ k l. run-none u (tail p d) k) (λ k. refl) n;
-  after = w .after;
+pub written-cleared : (b : ℕ) (s t : List ℕ) (k : ℕ) → k ≡ need b → k ≤ length s → t ≡ replicate k 0 ++ drop k s → Written b zeros s t
+written-cleared b s t k e fits cleared = record {
+  length-same = ap length cleared ∙ simp (length-append, length-replicate, length-drop) (omega arith);
+  bits = λ n h.
+      ap (λ (l : List ℕ). bit l n) cleared
+      ∙ bit-cleared s k n (omega arith)
+      ∙ run-each b zeros zeros n (λ v. 0 ≡ v) (λ l. refl) (λ l. refl);
+  after = rw (← e) (ap (λ (l : List ℕ). drop k l) cleared ∙ drop-at (replicate k 0) (drop k s) k (length-replicate {A = ℕ} k 0));
 }
+
+module _ {b : ℕ} {x y f : ℕ → ℕ} {s t u : List ℕ} (w : Written b x s t) (a : Adds t u f) (sums : (n : ℕ) → n < b → (x n + f n) % 2 ≡ y n)
+    (past : (n : ℕ) → b ≤ n → f n ≡ 0) (bt : Bytes t) (bu : Bytes u) where
+  bytes-drop : (s : List ℕ) → Bytes s → Bytes (drop (need b) s)
+  bytes-drop s h i = rw (getD-drop (need b) s i 0) (h (need b + i))
+
+  kept : (n : ℕ) → bit (drop (need b) u) n ≡ bit (drop (need b) t) n
+  kept n =
+      bit-drop u (need b) n
+      ∙ omega (arith, a .each (8 * need b + n), past (8 * need b + n) (omega arith), bit< t (8 * need b + n))
+      ∙ sym (bit-drop t (need b) n)
+
+  pub written-added : Written b y s u
+  written-added = record {
+    length-same = a .length-same ∙ w .length-same;
+    bits = λ n h.
+        a .each n
+        ∙ ap (λ (v : ℕ). (v + f n) % 2) (w .bits n h)
+        ∙ run-each b y zeros n (λ v. (run b x zeros n + f n) % 2 ≡ v)
+        (λ l. rw run-low (sums n l))
+        (λ l. rw run-high (omega (arith, past n l)));
+    after =
+        bits-same (drop (need b) u) (drop (need b) t) (bytes-drop u bu) (bytes-drop t bt)
+        (simp length-drop (omega (arith, a .length-same))) (λ n h. kept n)
+        ∙ w .after;
+  }
+
+tail-below : (p : List ℕ) (d n : ℕ) → tail p d n < 2
+tail-below p d =
+    run-below 2560 (bit p) (run 10 (digit d) zeros) (λ n l. bit< p n)
+    (run-below 10 (digit d) zeros (λ n l. omega arith) (λ n. lit< tt))
+
+module _ (s t u : List ℕ) (bt : Bytes t) (bu : Bytes u) where
+  pub payload-written : (K : ℕ) (x : ℕ → ℕ) → ((n : ℕ) → x n < 2) → Written (lineBits K) zeros s t → Adds t u (placed 0 K x)
+      → Written (lineBits K) (padded K x) s u
+  payload-written K x bits w a = written-added w a (λ n l. omega (arith, alone n, below n)) (λ n l. placed-above 0 K x n (omega arith)) bt bu
+    where
+      alone : (n : ℕ) → placed 0 K x n ≡ padded K x n
+      alone n = run-none zeros (run K x zeros) n
+
+      below : (n : ℕ) → padded K x n < 2
+      below = run-below K x zeros (λ n l. bits n) (λ n. lit< tt)
+
+  pub tail-written : (p : List ℕ) (d : ℕ) → Written tailBits zeros s t → Adds t u (placed 0 tailBits (tail p d)) → Written tailBits (tail p d) s u
+  tail-written p d w a =
+      written-added w a
+      (λ n l. let e : n - 0 ≡ n = omega arith in rw (placed-in 0 tailBits (tail p d) n (omega arith) l, e) (omega (arith, tail-below p d n)))
+      (λ n l. placed-above 0 tailBits (tail p d) n (omega arith)) bt bu
+
+  pub line-written : (K : ℕ) (x : ℕ → ℕ) (p : List ℕ) (d : ℕ) → ((n : ℕ) → x n < 2) → Written (lineBits K) (padded K x) s t
+      → Adds t u (placed K tailBits (tail p d)) → Written (lineBits K) (lineWord K x p d) s u
+  line-written K x p d bits w a = written-added w a joined (λ n l. placed-above K tailBits (tail p d) n (omega arith)) bt bu
+    where
+      joined : (n : ℕ) → n < lineBits K → (padded K x n + placed K tailBits (tail p d) n) % 2 ≡ lineWord K x p d n
+      joined n l =
+          run-each K x (tail p d) n (λ v. (padded K x n + placed K tailBits (tail p d) n) % 2 ≡ v)
+          (λ h. rw (run-low K x zeros n h, placed-below K tailBits (tail p d) n h) (omega (arith, bits n)))
+          (λ h. rw (run-high K x zeros n h, placed-in K tailBits (tail p d) n h l) (omega (arith, tail-below p d (n - K))))

@@ -1,42 +1,44 @@
--- `bits::count_ones` meets its contract. The invariant: the ones of the first i bytes are counted.
+-- `bits::count_ones` meets its contract. The invariant: the ones of the first k numbers are counted.
 use borrow.Author.Needs.{needs}
 use mathlib.Core.Path.{_≡_, refl, ap, _∙_}
-use Prim.Native.Nat.{ℕ, _+_, _-_, _*_, _≤_}
+use Prim.Native.Nat.{ℕ, _+_, _-_, _*_, _/_, _≤_}
 use native.Mathlib.Omega.{arith}
 use lib.ListN.{length}
 use Rattle.rules.specs.Bits.{bit}
 use Rattle.rules.specs.Matrix.{total}
-use Rattle.bits.proofs.OnesLaws.{ones-more, ones-below}
+use Rattle.bits.proofs.OnesLaws.{ones-more, ones-all, ones-below}
 use Rattle.bits.proofs.count_ones.Statement.{statement}
 use Rattle.bits.proofs.count_ones.Tie as tie
 
 abbrev Inv-loop : tie.InvT-loop
-Inv-loop s count₀ i₀ i-end count i = (i ≤ i-end) × (i-end ≡ length s) × (count ≡ total (8 * i) (bit s))
+Inv-loop s whole count₀ k₀ count k = (k ≤ whole) × (whole ≡ length s / 8) × (count ≡ total (64 * k) (bit s))
 
 abbrev μ-loop : tie.MeasureT-loop
-μ-loop s count₀ i₀ i-end count i = i-end - i
+μ-loop s whole count₀ k₀ count k = whole - k
 
 loop-holds : tie.Need-loop-holds Inv-loop μ-loop
 unfolding total
 loop-holds c = (search needs, search needs, refl)
 
-shared-slice-read-ones-in : tie.Need-shared-slice-read-ones-in Inv-loop μ-loop
-shared-slice-read-ones-in c = search needs
+mul-load : tie.Need-mul-load Inv-loop μ-loop
+mul-load c = search needs
+
+load-requires : tie.Need-load-requires Inv-loop μ-loop
+load-requires c κs = search needs
 
 ones-in-requires : tie.Need-ones-in-requires Inv-loop μ-loop
 ones-in-requires c κs = search needs
 
--- what is counted once this byte is: no more than the bits of the slice
 add-count : tie.Need-add-count Inv-loop μ-loop
 add-count c =
     let l = c .before .before .before in
     let s = l .before .before .args .s .now in
-    let byte = c .before .shared-slice-known2 .given (l .loop .i) .fits in
-    let more = ones-more s (l .loop .i) (l .loop .count) (l .loop .inv .2) byte in
-    omega (arith, more, c .ones-in .ensures, ones-below s (l .loop .i + 1), l .before .before .pre)
+    let k = l .loop .k in
+    let more = ones-more s k (l .loop .count) _ (l .loop .inv .2) (omega arith) (c .before .load .ensures) (c .ones-in .ensures) in
+    omega (arith, more, ones-below s (64 * (k + 1)), l .before .before .pre)
 
-add-i : tie.Need-add-i Inv-loop μ-loop
-add-i c = search needs
+add-k : tie.Need-add-k Inv-loop μ-loop
+add-k c = search needs
 
 loop-less : tie.Need-loop-less Inv-loop μ-loop
 loop-less c = search needs
@@ -44,16 +46,37 @@ loop-less c = search needs
 loop-again : tie.Need-loop-again Inv-loop μ-loop
 loop-again c =
     let l = c .before .before .before in
+    let s = l .before .before .args .s .now in (
+      search needs,
+      search needs,
+      ones-more s (l .loop .k) (l .loop .count) _ (l .loop .inv .2) (omega arith) (c .before .load .ensures) (c .ones-in .ensures),
+    )
+
+mul-rest-at : tie.Need-mul-rest-at Inv-loop μ-loop
+mul-rest-at c = search needs
+
+rest-at-requires : tie.Need-rest-at-requires Inv-loop μ-loop
+rest-at-requires c κs = search needs
+
+ones-in-requires-2 : tie.Need-ones-in-requires-2 Inv-loop μ-loop
+ones-in-requires-2 c κs = search needs
+
+-- the rest reaches past the end, so with it all ones are counted
+counted : tie.Need-returns Inv-loop μ-loop
+counted c =
+    let l = c .before .before .before in
     let s = l .before .before .args .s .now in
-    let byte = c .before .shared-slice-known2 .given (l .loop .i) .fits in
-    let more = ones-more s (l .loop .i) (l .loop .count) (l .loop .inv .2) byte in
-    (search needs, search needs, rw (c .ones-in .ensures) more)
+    let k = l .loop .k in
+    ones-more s k (l .loop .count) _ (l .loop .inv .2) (omega arith) (c .before .rest-at .ensures) (c .ones-in2 .ensures)
+    ∙ ones-all s (64 * (k + 1)) (omega arith)
+
+add-result : tie.Need-add-result Inv-loop μ-loop
+add-result c =
+    let start = c .before .before .before .before .before in
+    omega (arith, counted c, ones-below (start .args .s .now) (8 * length (start .args .s .now)), start .pre)
 
 returns : tie.Need-returns Inv-loop μ-loop
-returns c =
-    let s = c .before .before .before .args .s .now in
-    let e : c .before .loop .i ≡ length s = omega arith in
-    c .before .loop .inv .2 ∙ ap (λ (i : ℕ). total (8 * i) (bit s)) e
+returns c = counted c
 
 pub count-ones-spec : {M : Type 1} → statement M
 count-ones-spec =
@@ -62,10 +85,15 @@ count-ones-spec =
     Inv-loop
     μ-loop
     loop-holds
-    shared-slice-read-ones-in
+    mul-load
+    load-requires
     ones-in-requires
     add-count
-    add-i
+    add-k
     loop-less
     loop-again
+    mul-rest-at
+    rest-at-requires
+    ones-in-requires-2
+    add-result
     returns)

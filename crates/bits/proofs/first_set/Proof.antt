@@ -1,51 +1,117 @@
--- `bits::first_set` meets its contract. The invariant: every place passed is 0.
+-- `bits::first_set` meets its contract. The invariant: the bits of the first k numbers are 0.
 use borrow.Author.Needs.{needs}
-use borrow.Author.Count.{below-more}
 use mathlib.Core.Path.{_≡_}
-use Prim.Native.Nat.{ℕ, _-_, _≤_, _<_}
+use Prim.Native.Nat.{ℕ, _+_, _-_, _*_, _/_, _≤_}
 use native.Mathlib.Omega.{arith}
 use Rattle.rules.specs.Bits.{bit}
-use Rattle.laws.proofs.Bits.{bit<}
+use Rattle.bits.proofs.Moving.{at-place}
+use Rattle.bits.proofs.Searching.{Clear, clear-none, clear-more, one-found, one-left, none-left, first-set}
 use Rattle.bits.proofs.first_set.Statement.{statement}
 use Rattle.bits.proofs.first_set.Tie as tie
 
 abbrev Inv-loop : tie.InvT-loop
-Inv-loop s from to place₀ place = (from ≤ place) × (place ≤ to) × ((n : ℕ) → n < place → from ≤ n → bit s n ≡ 0)
+Inv-loop s from to whole k₀ k = (k ≤ whole) × (whole ≡ (to - from) / 64) × Clear (λ n. bit s (from + n)) (64 * k)
 
 abbrev μ-loop : tie.MeasureT-loop
-μ-loop s from to place₀ place = to - place
+μ-loop s from to whole k₀ k = whole - k
+
+sub-whole : tie.Need-sub-whole Inv-loop μ-loop
+sub-whole c = search needs
 
 loop-holds : tie.Need-loop-holds Inv-loop μ-loop
-loop-holds c = (search needs, search needs, λ n h f. absurd (omega arith))
+loop-holds c = (search needs, search needs, clear-none _)
 
-bit-at-requires : tie.Need-bit-at-requires Inv-loop μ-loop
-bit-at-requires c κs = search needs
+mul-number-at : tie.Need-mul-number-at Inv-loop μ-loop
+mul-number-at c = search needs
+
+add-number-at : tie.Need-add-number-at Inv-loop μ-loop
+add-number-at c = search needs
+
+number-at-requires : tie.Need-number-at-requires Inv-loop μ-loop
+number-at-requires c κs = search needs
+
+mul-result : tie.Need-mul-result Inv-loop μ-loop
+mul-result c = search needs
+
+add-result : tie.Need-add-result Inv-loop μ-loop
+add-result c = search needs
+
+lowest-one-requires : tie.Need-lowest-one-requires Inv-loop μ-loop
+lowest-one-requires c κs = search needs
+
+add-result-2 : tie.Need-add-result-2 Inv-loop μ-loop
+add-result-2 c = search needs
 
 returns : tie.Need-returns Inv-loop μ-loop
 returns c =
-    let l = c .before .before .before .loop in
-    record { low = search needs; high = search needs; clear = λ n f h. l .inv .2 n h f; set = λ h. omega arith }
+    let read = c .before .before in
+    let l = read .before .before in
+    let start = l .before .before in
+    let a = start .args in
+    let here = at-place (a .s .now) (a .from) (l .loop .k) (read .number-at .ensures) in
+    first-set (a .s .now) (a .from) (a .to) _ _ (start .pre .0) (omega arith)
+    (one-found _ (l .loop .k) (l .loop .inv .2) here (a .to - a .from) (search needs) (c .before .if1 .taken)
+    (c .lowest-one .ensures) (omega arith))
 
-add-place : tie.Need-add-place Inv-loop μ-loop
-add-place c = search needs
+add-k : tie.Need-add-k Inv-loop μ-loop
+add-k c = search needs
 
 loop-less : tie.Need-loop-less Inv-loop μ-loop
 loop-less c = search needs
 
 loop-again : tie.Need-loop-again Inv-loop μ-loop
 loop-again c =
-    let l = c .before .before .before in
-    let s = l .before .before .args .s .now in
-    (search needs, search needs, below-more _ (l .loop .place) (l .loop .inv .2) (λ h. omega (arith, bit< s (l .loop .place))))
+    let read = c .before in
+    let l = read .before .before in
+    let a = l .before .before .args in
+    let k = l .loop .k in
+    (search needs, search needs, clear-more _ k (l .loop .inv .2) (at-place (a .s .now) (a .from) k (read .number-at .ensures)) (c .if1 .left))
+
+mul-rest-at : tie.Need-mul-rest-at Inv-loop μ-loop
+mul-rest-at c = search needs
+
+add-rest-at : tie.Need-add-rest-at Inv-loop μ-loop
+add-rest-at c = search needs
+
+rest-at-requires : tie.Need-rest-at-requires Inv-loop μ-loop
+rest-at-requires c κs = search needs
+
+lowest-one-requires-2 : tie.Need-lowest-one-requires-2 Inv-loop μ-loop
+lowest-one-requires-2 c κs = search needs
+
+sub-if2 : tie.Need-sub-if2 Inv-loop μ-loop
+sub-if2 c = search needs
+
+mul-result-2 : tie.Need-mul-result-2 Inv-loop μ-loop
+mul-result-2 c = search needs
+
+add-result-3 : tie.Need-add-result-3 Inv-loop μ-loop
+add-result-3 c = search needs
+
+add-result-4 : tie.Need-add-result-4 Inv-loop μ-loop
+add-result-4 c = search needs
 
 returns-2 : tie.Need-returns-2 Inv-loop μ-loop
 returns-2 c =
-    record {
-      low = search needs;
-      high = search needs;
-      clear = λ n f h. c .before .loop .inv .2 n (omega arith) f;
-      set = λ h. absurd (omega arith);
-    }
+    let read = c .before .before in
+    let l = read .before .before in
+    let start = l .before .before in
+    let a = start .args in
+    let b = a .to - a .from in
+    let here = at-place (a .s .now) (a .from) (b / 64) (read .rest-at .ensures) in
+    first-set (a .s .now) (a .from) (a .to) _ _ (start .pre .0) (omega arith)
+    (one-left _ b (omega arith) (l .loop .inv .2) here (c .before .lowest-one2 .ensures) (c .if2 .taken))
+
+returns-3 : tie.Need-returns-3 Inv-loop μ-loop
+returns-3 c =
+    let read = c .before .before in
+    let l = read .before .before in
+    let start = l .before .before in
+    let a = start .args in
+    let b = a .to - a .from in
+    let here = at-place (a .s .now) (a .from) (b / 64) (read .rest-at .ensures) in
+    first-set (a .s .now) (a .from) (a .to) _ _ (start .pre .0) (omega arith)
+    (none-left _ b (omega arith) (l .loop .inv .2) here (c .before .lowest-one2 .ensures) (c .if2 .left))
 
 pub first-set-spec : {M : Type 1} → statement M
 first-set-spec =
@@ -53,10 +119,26 @@ first-set-spec =
     (tie.spec
     Inv-loop
     μ-loop
+    sub-whole
     loop-holds
-    bit-at-requires
+    mul-number-at
+    add-number-at
+    number-at-requires
+    mul-result
+    add-result
+    lowest-one-requires
+    add-result-2
     returns
-    add-place
+    add-k
     loop-less
     loop-again
-    returns-2)
+    mul-rest-at
+    add-rest-at
+    rest-at-requires
+    lowest-one-requires-2
+    sub-if2
+    mul-result-2
+    add-result-3
+    add-result-4
+    returns-2
+    returns-3)

@@ -6,8 +6,8 @@ use native.Mathlib.Omega.{arith}
 use Rattle.rules.specs.Bits.{zeros, run}
 use Rattle.rules.proofs.TableLaws.{entry-read}
 use Rattle.laws.proofs.Runs.{run-none}
-use Rattle.bits.specs.Adds.{Adds}
-use Rattle.bits.proofs.AddsLaws.{adds-none}
+use Rattle.numbers.specs.Adds.{Adds}
+use Rattle.numbers.proofs.AddsLaws.{adds-none}
 use Rattle.running.proofs.Blocks.{column, adds-taken, added-block}
 use Rattle.running.proofs.add_block.Statement.{statement}
 use Rattle.running.proofs.add_block.Tie as tie

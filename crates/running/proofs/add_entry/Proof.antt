@@ -4,7 +4,7 @@ use mathlib.Core.Path.{_≡_}
 use Prim.Native.Nat.{_+_, _-_, _*_}
 use native.Mathlib.Omega.{arith}
 use Rattle.laws.proofs.Columns.{turn-told}
-use Rattle.bits.proofs.AddsLaws.{adds-none, adds-as}
+use Rattle.numbers.proofs.AddsLaws.{adds-none, adds-as}
 use Rattle.running.proofs.Blocks.{taken-none, taken-turned}
 use Rattle.turning.proofs.Parts.{part-turned}
 use Rattle.running.proofs.add_entry.Statement.{statement}

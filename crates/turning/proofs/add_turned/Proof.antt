@@ -1,11 +1,10 @@
 -- `turning::add_turned` meets its contract: four quarters, each with its sum.
 use borrow.Author.Needs.{needs}
-use Prim.Native.Nat.{ℕ}
+use native.Mathlib.Omega.{arith}
 use Rattle.rules.specs.Bits.{zeros}
 use Rattle.laws.proofs.Runs.{run-none}
-use Rattle.bits.proofs.AddsLaws.{adds-none}
-use Rattle.turning.specs.Turning.{turned}
-use Rattle.turning.proofs.Quarters.{adds-quarter}
+use Rattle.numbers.proofs.AddsLaws.{adds-as}
+use Rattle.turning.proofs.Quarters.{adds-block}
 use Rattle.turning.proofs.add_turned.Statement.{statement}
 use Rattle.turning.proofs.add_turned.Tie as tie
 
@@ -31,7 +30,13 @@ store-requires-3 : tie.Need-store-requires-3
 store-requires-3 c κs = search needs
 
 store-requires-4 : tie.Need-store-requires-4
-store-requires-4 c κs = search needs
+store-requires-4 c κs =
+    let b3 = c .before .before .before in
+    let b2 = b3 .before .before .before .before in
+    let b1 = b2 .before .before .before .before in
+    let w1 = b1 .before .before .before .before .before .before .before .before in
+    let long = w1 .before .before .before .before .pre .0 in
+    omega (arith, long, b3 .store3 .ensures .length-same, b2 .store2 .ensures .length-same, b1 .store .ensures .length-same)
 
 same-length : tie.Need-same-length
 same-length c = search needs
@@ -46,17 +51,9 @@ returns c =
     let w3 = w4 .before .before in
     let w2 = w3 .before .before in
     let w1 = w2 .before .before in
-    let a = w1 .before .before .before .before .args in
-    let f : ℕ → ℕ = turned 256 (a .block .now) (a .turn) in
-    adds-quarter f 3
-    (adds-quarter f 2
-    (adds-quarter f 1
-    (adds-quarter f 0
-    (adds-none _ _ (run-none f zeros))
-    (b1 .store .ensures) (w1 .sum-at .ensures))
-    (b2 .store2 .ensures) (w2 .sum-at2 .ensures))
-    (b3 .store3 .ensures) (w3 .sum-at3 .ensures))
-    (b4 .store4 .ensures) (w4 .sum-at4 .ensures)
+    adds-as (run-none zeros _)
+    (adds-block 0 _ (b1 .store .ensures) (w1 .sum-at .ensures) (b2 .store2 .ensures) (w2 .sum-at2 .ensures)
+    (b3 .store3 .ensures) (w3 .sum-at3 .ensures) (b4 .store4 .ensures) (w4 .sum-at4 .ensures))
 
 pub add-turned-spec : {M : Type 1} → statement M
 add-turned-spec =

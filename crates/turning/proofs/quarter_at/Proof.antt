@@ -1,84 +1,56 @@
--- `turning::quarter_at` meets its contract: eight bytes joined, one after the other.
+-- `turning::quarter_at` meets its contract.
 use borrow.Author.Needs.{needs}
-use mathlib.Core.Path.{ap, _∙_}
-use Prim.Native.Nat.{ℕ, _+_, _*_, _<_}
-use native.Mathlib.Omega.{arith}
-use Rattle.rules.specs.Bits.{bit, zeros}
-use Rattle.laws.proofs.Bits.{bit<}
-use Rattle.laws.proofs.Runs.{run-low}
-use Rattle.turning.proofs.Quarters.{quarter-first, quarter-more}
+use Rattle.turning.proofs.Quarters.{quarter-turned}
 use Rattle.turning.proofs.quarter_at.Statement.{statement}
 use Rattle.turning.proofs.quarter_at.Tie as tie
 
-mul-at : tie.Need-mul-at
-mul-at c = search needs
+mul-seen : tie.Need-mul-seen
+mul-seen c = search needs
 
-byte-at-requires : tie.Need-byte-at-requires
-byte-at-requires c κs = search needs
+add-seen : tie.Need-add-seen
+add-seen c = search needs
 
-byte-at-requires-2 : tie.Need-byte-at-requires-2
-byte-at-requires-2 c κs = search needs
+mul-load : tie.Need-mul-load
+mul-load c = search needs
 
-byte-at-requires-3 : tie.Need-byte-at-requires-3
-byte-at-requires-3 c κs = search needs
+add-load : tie.Need-add-load
+add-load c = search needs
 
-byte-at-requires-4 : tie.Need-byte-at-requires-4
-byte-at-requires-4 c κs = search needs
+load-requires : tie.Need-load-requires
+load-requires c κs = search needs
 
-byte-at-requires-5 : tie.Need-byte-at-requires-5
-byte-at-requires-5 c κs = search needs
+add-load-2 : tie.Need-add-load-2
+add-load-2 c = search needs
 
-byte-at-requires-6 : tie.Need-byte-at-requires-6
-byte-at-requires-6 c κs = search needs
+mul-load-2 : tie.Need-mul-load-2
+mul-load-2 c = search needs
 
-byte-at-requires-7 : tie.Need-byte-at-requires-7
-byte-at-requires-7 c κs = search needs
+add-load-3 : tie.Need-add-load-3
+add-load-3 c = search needs
 
-byte-at-requires-8 : tie.Need-byte-at-requires-8
-byte-at-requires-8 c κs = search needs
+load-requires-2 : tie.Need-load-requires-2
+load-requires-2 c κs = search needs
+
+across-requires : tie.Need-across-requires
+across-requires c κs = search needs
 
 returns : tie.Need-returns
 returns c =
-    let b7 = c in
-    let b6 = b7 .before in
-    let b5 = b6 .before in
-    let b4 = b5 .before in
-    let b3 = b4 .before in
-    let b2 = b3 .before in
-    let b1 = b2 .before in
-    let b0 = b1 .before in
-    let a = b0 .before .before .args in
-    let f : ℕ → ℕ = λ k. bit (a .s .now) (8 * (8 * a .index) + k) in
-    let bits : (k : ℕ) → f k < 2 = λ k. bit< (a .s .now) (8 * (8 * a .index) + k) in
-    let w =
-    quarter-more 56 8 f bits
-    (quarter-more 48 8 f bits
-    (quarter-more 40 8 f bits
-    (quarter-more 32 8 f bits
-    (quarter-more 24 8 f bits
-    (quarter-more 16 8 f bits
-    (quarter-more 8 8 f bits
-    (quarter-first f (b0 .byte-at .ensures))
-    (b1 .byte-at2 .ensures))
-    (b2 .byte-at3 .ensures))
-    (b3 .byte-at4 .ensures))
-    (b4 .byte-at5 .ensures))
-    (b5 .byte-at6 .ensures))
-    (b6 .byte-at7 .ensures))
-    (b7 .byte-at8 .ensures) in
-    record { each = λ k h. w .each k h ∙ run-low 64 f zeros k h ∙ ap (bit (a .s .now)) (omega arith) }
+    let a = c .before .before .before .before .args in
+    quarter-turned (a .s .now) (a .from) (a .turn) (a .index) (c .before .before .load .ensures) (c .before .load2 .ensures) (c .across .ensures)
 
 pub quarter-at-spec : {M : Type 1} → statement M
 quarter-at-spec =
     tie.close
     (tie.spec
-    mul-at
-    byte-at-requires
-    byte-at-requires-2
-    byte-at-requires-3
-    byte-at-requires-4
-    byte-at-requires-5
-    byte-at-requires-6
-    byte-at-requires-7
-    byte-at-requires-8
+    mul-seen
+    add-seen
+    mul-load
+    add-load
+    load-requires
+    add-load-2
+    mul-load-2
+    add-load-3
+    load-requires-2
+    across-requires
     returns)

@@ -8,7 +8,7 @@ use Rattle.rules.specs.Refusals.{tells, completeOrder}
 use Rattle.laws.proofs.Bits.{mid-rest}
 use Rattle.laws.proofs.Passed.{complete-passed}
 use Rattle.parity.proofs.Single.{payload-found}
-use Rattle.word.proofs.Blocks.{first-blocks}
+use Rattle.running.proofs.Blocks.{first-blocks}
 use Rattle.word.proofs.complete.Statement.{statement}
 use Rattle.word.proofs.complete.Tie as tie
 

@@ -7,11 +7,8 @@ use Rattle.writing.proofs.add_tail.Tie as tie
 add-run-requires : tie.Need-add-run-requires
 add-run-requires c κs = search needs
 
-cast-low : tie.Need-cast-low
-cast-low c = search needs
-
-cast-high : tie.Need-cast-high
-cast-high c = search needs
+digits-of-requires : tie.Need-digits-of-requires
+digits-of-requires c κs = search needs
 
 add-add-run : tie.Need-add-add-run
 add-add-run c = search needs
@@ -27,18 +24,19 @@ same-length c = search needs
 
 returns : tie.Need-returns
 returns c =
-    let s = c .before .before .before .before .before .before .before .before .before .before .before in
-    let a = s .args in
-    tail-added (a .parity .now) (a .delimiter) (a .at) (s .pre .3)
-    (c .before .before .before .before .before .before .before .add-run .ensures) (c .before .before .add-run2 .ensures)
+    let told = c .before .before .before .before .before in
+    let first = told .before .before .before in
+    let start = first .before .before .before .before in
+    let a = start .args in
+    tail-added (a .parity .now) (a .delimiter) (a .at) (start .pre .3) (first .add-run .ensures)
+    (rw (told .digits-of .ensures) at (c .before .before .add-run2 .ensures))
 
 pub add-tail-spec : {M : Type 1} → statement M
 add-tail-spec =
     tie.close
     (tie.spec
     add-run-requires
-    cast-low
-    cast-high
+    digits-of-requires
     add-add-run
     slice-aggregate-add-run
     add-run-requires-2

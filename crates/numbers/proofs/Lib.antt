@@ -1,0 +1,3 @@
+pub mod AddsLaws
+pub mod Reading
+pub mod Storing
