@@ -29,7 +29,11 @@ module _ (s : List ℕ) where
       let e : n ≡ 8 * length s + (n - 8 * length s) = omega arith in
       ap (λ (n : ℕ). total n (bit s)) e
       ∙ total-from (8 * length s) (n - 8 * length s) (bit s)
-      ∙ omega (arith, total-none (n - 8 * length s) (λ i. bit s (8 * length s + i)) (λ i h. bit-past s (8 * length s + i) (omega arith)))
+      ∙ omega (
+        arith,
+        total-none (n - 8 * length s) (λ i. bit s (8 * length s + i))
+            (λ i h. bit-past s (8 * length s + i) (omega arith)),
+      )
 
   pub ones-below : (n : ℕ) → total n (bit s) ≤ n
   ones-below n = total-below n (bit s) (bit< s)

@@ -51,25 +51,32 @@ module _ (f : ℕ → ℕ) (k : ℕ) {x : ℕ} (c : Clear f (64 * k)) (h : Holds
     | no m ↦ place n (omega arith) (omega arith) ∙ rw (e, zero-div)
   ]
 
-  pub one-found : (b : ℕ) {r : ℕ} → x < 2 ^ 64 → (x ≡ 0 → ⊥) → LowestOne x r → 64 * k + 64 ≤ b → FirstOne f b (64 * k + r)
+  pub one-found : (b : ℕ) {r : ℕ} → x < 2 ^ 64 → (x ≡ 0 → ⊥) → LowestOne x r → 64 * k + 64 ≤ b
+      → FirstOne f b (64 * k + r)
   one-found b {r} small some o fits = elim (decLt r 64) [
     | yes l ↦ record { high = omega arith; clear = below o; set = λ q. sym (h .each r l) ∙ o .set l }
     | no l ↦ absurd (some (numbers-same 64 x 0 small (lit< tt) (λ t q. o .clear t (omega arith) ∙ rw zero-div)))
   ]
 
 -- b bits: whole numbers, which are passed, and b % 64 bits of the number x that follows
-module _ (f : ℕ → ℕ) (b : ℕ) {k x r : ℕ} (passed : k ≡ b / 64) (c : Clear f (64 * k)) (h : Holds x (λ i. f (64 * (b / 64) + i)))
+module _ (f : ℕ → ℕ) (b : ℕ) {k x r : ℕ} (passed : k ≡ b / 64) (c : Clear f (64 * k))
+    (h : Holds x (λ i. f (64 * (b / 64) + i)))
     (o : LowestOne x r) where
   before : Clear f (64 * (b / 64) + r)
   before = below f (b / 64) (rw passed at c) h o
 
   pub one-left : r < b % 64 → FirstOne f b (64 * (b / 64) + r)
-  one-left l = record { high = omega arith; clear = before; set = λ q. sym (h .each r (omega arith)) ∙ o .set (omega arith) }
+  one-left l = record {
+    high = omega arith;
+    clear = before;
+    set = λ q. sym (h .each r (omega arith)) ∙ o .set (omega arith);
+  }
 
   pub none-left : b % 64 ≤ r → FirstOne f b b
   none-left l = record { high = omega arith; clear = λ n q. before n (omega arith); set = λ q. absurd (omega arith) }
 
-pub first-set : (s : List ℕ) (from to r n : ℕ) → from ≤ to → n ≡ from + r → FirstOne (λ n. bit s (from + n)) (to - from) r
+pub first-set : (s : List ℕ) (from to r n : ℕ) → from ≤ to → n ≡ from + r
+    → FirstOne (λ n. bit s (from + n)) (to - from) r
     → FirstSet s from to n
 first-set s from to r n l e f = record {
   low = omega arith;

@@ -37,7 +37,9 @@ pub fn add_bit(s: &mut [u8], place: usize, value: u8)
 // Adds whole numbers of `from`, the bits from `start` on, to the bits of `s` from `at` on.
 fn add_numbers(s: &mut [u8], at: usize, from: &[u8], start: usize, whole: usize)
     requires { ⌜ (at + 64 * whole ≤ 8 * length (now s)) × (start + 64 * whole ≤ 8 * length (now from)) ⌝ }
-    ensures { λ r. ⌜ Adds (now (s .entry)) (now (s .exit)) (placed at (64 * whole) (λ t. bit (now (from .entry)) (start + t))) ⌝ }
+    ensures { λ r. ⌜
+        Adds (now (s .entry)) (now (s .exit)) (placed at (64 * whole) (λ t. bit (now (from .entry)) (start + t)))
+        ⌝ }
 {
     for k in 0..whole {
         let number = numbers::number_at(from, start / 8 + 8 * k, start % 8);
@@ -48,7 +50,9 @@ fn add_numbers(s: &mut [u8], at: usize, from: &[u8], start: usize, whole: usize)
 // Adds `count` bits of `from`, those from `start` on, to the bits of `s` from `at` on. Both places may be inside a byte.
 pub fn add_run(s: &mut [u8], at: usize, from: &[u8], start: usize, count: usize)
     requires { ⌜ (at + count ≤ 8 * length (now s)) × (start + count ≤ 8 * length (now from)) ⌝ }
-    ensures { λ r. ⌜ Adds (now (s .entry)) (now (s .exit)) (placed at count (λ t. bit (now (from .entry)) (start + t))) ⌝ }
+    ensures { λ r. ⌜
+        Adds (now (s .entry)) (now (s .exit)) (placed at count (λ t. bit (now (from .entry)) (start + t)))
+        ⌝ }
 {
     let whole = count / 64;
     add_numbers(s, at, from, start, whole);
@@ -99,11 +103,13 @@ pub fn first_set(s: &[u8], from: usize, to: usize) -> usize
     to
 }
 
-// The lowest of `count` places at which the bits of `s` from `at` on differ from those of `other` from `start` on; `count`
-// where they are alike.
+// The lowest of `count` places at which the bits of `s` from `at` on differ from those of `other` from `start` on;
+// `count` where they are alike.
 pub fn first_difference(s: &[u8], at: usize, other: &[u8], start: usize, count: usize) -> usize
     requires { ⌜ (at + count ≤ 8 * length (now s)) × (start + count ≤ 8 * length (now other)) ⌝ }
-    ensures { λ r. ⌜ FirstDifference (λ n. bit (now (s .entry)) (at + n)) (λ n. bit (now (other .entry)) (start + n)) count r ⌝ }
+    ensures { λ r. ⌜
+        FirstDifference (λ n. bit (now (s .entry)) (at + n)) (λ n. bit (now (other .entry)) (start + n)) count r
+        ⌝ }
 {
     let whole = count / 64;
     for k in 0..whole {

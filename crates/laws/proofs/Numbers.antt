@@ -123,7 +123,8 @@ module _ (n low high t : ℕ) (small : low < 2 ^ n) (less : t < n) where
   bits k = run-below n (digit low) (digit high) (λ i l. digit< low i) (digit< high) (k + t)
 
   pub digit-across : (k : ℕ) → k < n
-      → digit (bitOr (low / 2 ^ t) ((high * 2 ^ 1) % 2 ^ n * 2 ^ (n - 1 - t) % 2 ^ n)) k ≡ run n (digit low) (digit high) (k + t)
+      → digit (bitOr (low / 2 ^ t) ((high * 2 ^ 1) % 2 ^ n * 2 ^ (n - 1 - t) % 2 ^ n)) k ≡ run n (digit low)
+      (digit high) (k + t)
   unfolding both
   digit-across k h =
       digit-joined _ _ (n - t) t both bits k (first k) (second k h) ∙ run-low (n - t + t) both zeros k (omega arith)

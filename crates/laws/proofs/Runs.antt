@@ -111,14 +111,16 @@ placed-whole h b y n below above =
 pub placed-moved : (h w b : ℕ) (x : ℕ → ℕ) (n : ℕ) → placed h (w + b) (run w zeros x) n ≡ placed (h + w) b x n
 placed-moved h w b x n =
     placed-each (h + w) b x n (λ v. placed h (w + b) (run w zeros x) n ≡ v)
-    (λ l. placed-each h (w + b) (run w zeros x) n (λ v. v ≡ 0) (λ k. refl) (λ k m. run-low w zeros x (n - h) (omega arith)) (λ k. refl))
+    (λ l. placed-each h (w + b) (run w zeros x) n (λ v. v ≡ 0) (λ k. refl)
+    (λ k m. run-low w zeros x (n - h) (omega arith)) (λ k. refl))
     (λ l k.
     placed-in h (w + b) (run w zeros x) n (omega arith) (omega arith)
     ∙ run-high w zeros x (n - h) (omega arith)
     ∙ ap x (omega arith))
     (λ l. placed-above h (w + b) (run w zeros x) n (omega arith))
 
-pub placed-fewer : (h b c : ℕ) (x : ℕ → ℕ) → c ≤ b → ((k : ℕ) → c ≤ k → x k ≡ 0) → (n : ℕ) → placed h b x n ≡ placed h c x n
+pub placed-fewer : (h b c : ℕ) (x : ℕ → ℕ) → c ≤ b → ((k : ℕ) → c ≤ k → x k ≡ 0) → (n : ℕ)
+    → placed h b x n ≡ placed h c x n
 placed-fewer h b c x l none n =
     placed-each h c x n (λ v. placed h b x n ≡ v)
     (λ k. placed-below h b x n k)

@@ -40,17 +40,20 @@ module _ {K : ℕ} {x : ℕ → ℕ} {w : List ℕ} (b : Begins K x w) where
   begins-parity {p} q = record {
     bytes = q .bytes;
     all-hold = λ n h. check-same fibre n (fullWord (padded K x) p) (fullWord (padded K (bit w)) p)
-        (λ m l. run-same 14592 _ (bit p) _ (bit p) (λ k r. run-same K x zeros (bit w) zeros (λ i j. sym (first i j)) (λ i. refl) k) (λ k. refl) m)
+        (λ m l. run-same 14592 _ (bit p) _ (bit p)
+        (λ k r. run-same K x zeros (bit w) zeros (λ i j. sym (first i j)) (λ i. refl) k) (λ k. refl) m)
         ∙ q .all-hold n h;
   }
 
-pub written-begins : (K : ℕ) (x : ℕ → ℕ) {s t : List ℕ} → need (K + 2570) ≤ length s → Written (lineBits K) (padded K x) s t → Begins K x t
+pub written-begins : (K : ℕ) (x : ℕ → ℕ) {s t : List ℕ} → need (K + 2570) ≤ length s
+    → Written (lineBits K) (padded K x) s t → Begins K x t
 written-begins K x fits w = record {
   long = omega (arith, w .length-same);
   same = λ n h. w .bits n (omega arith) ∙ run-low (lineBits K) (padded K x) zeros n (omega arith);
 }
 
-pub moved-begins : (K : ℕ) (s : List ℕ) {w : List ℕ} → K ≤ 14392 → Adds (replicate 1824 0) w (placed 0 K (bit s)) → Begins K (bit s) w
+pub moved-begins : (K : ℕ) (s : List ℕ) {w : List ℕ} → K ≤ 14392 → Adds (replicate 1824 0) w (placed 0 K (bit s))
+    → Begins K (bit s) w
 moved-begins K s less a = record {
   long = omega (arith, a .length-same, length-replicate {A = ℕ} 1824 0);
   same = λ n h.
@@ -59,10 +62,12 @@ moved-begins K s less a = record {
       ∙ run-none zeros (run K (bit s) zeros) n;
 }
 
-pub padded-blocks : (K : ℕ) (w : List ℕ) → K ≤ 14392 → Padded K w → (n : ℕ) → blocks w 0 ((K + 255) / 256) n ≡ run 14592 (padded K (bit w)) zeros n
+pub padded-blocks : (K : ℕ) (w : List ℕ) → K ≤ 14392 → Padded K w → (n : ℕ)
+    → blocks w 0 ((K + 255) / 256) n ≡ run 14592 (padded K (bit w)) zeros n
 padded-blocks K w less p n =
     first-blocks w ((K + 255) / 256) n
     ∙ run-each (lastEnd K) (bit w) zeros n (λ v. v ≡ run 14592 (padded K (bit w)) zeros n)
     (λ l. rw (run-low 14592 (padded K (bit w)) zeros n (omega arith))
     (run-each K (bit w) zeros n (λ v. bit w n ≡ v) (λ h. refl) (λ h. p .clear n h l)))
-    (λ l. run-each 14592 (padded K (bit w)) zeros n (λ v. 0 ≡ v) (λ h. sym (run-high K (bit w) zeros n (omega arith))) (λ h. refl))
+    (λ l. run-each 14592 (padded K (bit w)) zeros n (λ v. 0 ≡ v) (λ h. sym (run-high K (bit w) zeros n (omega arith)))
+    (λ h. refl))

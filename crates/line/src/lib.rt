@@ -24,7 +24,10 @@ fn find_parity(count: usize, word: &[u8], parity: &mut [u8])
 
 // Writes a line word. Its payload is moved once: the parity is found where the zeros for the tail still stand after it.
 fn write(count: usize, payload: &[u8], delimiter: usize, line: &mut [u8])
-    requires { ⌜ (count ≤ 14392) × (count ≤ 8 * length (now payload)) × (delimiter ≤ 1023) × (need (count + 2570) ≤ length (now line)) ⌝ }
+    requires { ⌜
+        (count ≤ 14392) × (count ≤ 8 * length (now payload)) × (delimiter ≤ 1023) ×
+        (need (count + 2570) ≤ length (now line))
+        ⌝ }
     ensures { λ _. ⌜ LineWritten count (now (payload .entry)) delimiter (now (line .entry)) (now (line .exit)) ⌝ }
 {
     writing::write_payload(line, count, payload);
@@ -57,7 +60,9 @@ fn find_own(count: usize, line: &[u8], parity: &mut [u8])
 
 // Compares a line word's tail with the parity and the delimiter: the parity comes first.
 fn compare(count: usize, line: &[u8], parity: &[u8], delimiter: usize) -> Verdict
-    requires { ⌜ (count ≤ 14392) × (count + 2570 ≤ 8 * length (now line)) × (length (now parity) ≡ 384) × (delimiter ≤ 1023) ⌝ }
+    requires { ⌜
+        (count ≤ 14392) × (count + 2570 ≤ 8 * length (now line)) × (length (now parity) ≡ 384) × (delimiter ≤ 1023)
+        ⌝ }
     ensures { λ r. ⌜ TailVerdict count (now (line .entry)) delimiter (now (parity .entry)) r ⌝ }
 {
     let place = bits::first_difference(line, count, parity, 0, 2560);

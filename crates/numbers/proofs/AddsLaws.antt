@@ -55,7 +55,8 @@ module _ (s : List ℕ) (i x : ℕ) (h : i < length s) where
       ∙ rw (digit-low x 8 (n % 8) (omega arith), placed-in (8 * i) 8 (digit x) n (omega arith) (omega arith), t, e)
 
   other-byte : (n : ℕ) → (n / 8 ≡ i → ⊥) → placed (8 * i) 8 (digit x) n ≡ 0
-  other-byte n d = placed-each (8 * i) 8 (digit x) n (λ v. v ≡ 0) (λ l. refl) (λ l k. absurd (d (omega arith))) (λ l. refl)
+  other-byte n d = placed-each (8 * i) 8 (digit x) n (λ v. v ≡ 0) (λ l. refl) (λ l k. absurd (d (omega arith)))
+      (λ l. refl)
 
   pub adds-byte : Adds s (added s i x) (placed (8 * i) 8 (digit x))
   adds-byte = record {

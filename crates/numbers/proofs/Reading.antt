@@ -25,7 +25,8 @@ use Rattle.laws.proofs.Runs.{run-low, run-high, run-none, run-each, run-same}
 use Rattle.numbers.specs.Numbers.{Holds}
 
 -- a byte's digits are the bits at its places
-byte-digits : (s : List ℕ) (i k : ℕ) → getD s i 0 < 2 ^ 8 → digit (getD s i 0) k ≡ run 8 (λ t. bit s (8 * i + t)) zeros k
+byte-digits : (s : List ℕ) (i k : ℕ) → getD s i 0 < 2 ^ 8
+    → digit (getD s i 0) k ≡ run 8 (λ t. bit s (8 * i + t)) zeros k
 byte-digits s i k fits =
     run-each 8 (λ t. bit s (8 * i + t)) zeros k (λ v. digit (getD s i 0) k ≡ v)
     (λ h. sym (bit-digit s i k h))
@@ -37,7 +38,8 @@ byte-placed s a i fits = record {
   each = λ k h.
       digit-left (getD s (a + i) 0) (8 * i) 64 k h
       ∙ run-same (8 * i) zeros (digit (getD s (a + i) 0)) zeros _ (λ n l. refl)
-      (λ n. byte-digits s (a + i) n fits ∙ run-same 8 _ zeros _ zeros (λ t l. ap (bit s) (omega arith)) (λ t. refl) n) k;
+      (λ n. byte-digits s (a + i) n fits ∙ run-same 8 _ zeros _ zeros (λ t l. ap (bit s) (omega arith))
+      (λ t. refl) n) k;
 }
 
 pub number-none : (f : ℕ → ℕ) → Holds 0 (run 0 f zeros)
@@ -59,7 +61,8 @@ pub number-sum : {x y : ℕ} {f g : ℕ → ℕ} → Holds x f → Holds y g →
 number-sum {x} {y} p q = record { each = λ k h. bit-xor x y k ∙ rw (p .each k h, q .each k h) }
 
 pub number-across : (low high t : ℕ) → low < 2 ^ 64 → t < 64
-    → Holds (bitOr (low / 2 ^ t) ((high * 2 ^ 1) % 2 ^ 64 * 2 ^ (63 - t) % 2 ^ 64)) (λ k. run 64 (digit low) (digit high) (k + t))
+    → Holds (bitOr (low / 2 ^ t) ((high * 2 ^ 1) % 2 ^ 64 * 2 ^ (63 - t) % 2 ^ 64))
+    (λ k. run 64 (digit low) (digit high) (k + t))
 number-across low high t small less = record { each = digit-across 64 low high t small less }
 
 module _ (s : List ℕ) (i w : ℕ) {low high x : ℕ} where
@@ -81,7 +84,8 @@ module _ (s : List ℕ) (i w : ℕ) {low high x : ℕ} where
           ∙ ap (bit s) (omega arith)
 
 module _ (s : List ℕ) (i : ℕ) {x : ℕ} where
-  pub number-end : (n : ℕ) → length s ≤ i + n → Holds x (run (8 * n) (λ k. bit s (8 * i + k)) zeros) → Holds x (λ k. bit s (8 * i + k))
+  pub number-end : (n : ℕ) → length s ≤ i + n → Holds x (run (8 * n) (λ k. bit s (8 * i + k)) zeros)
+      → Holds x (λ k. bit s (8 * i + k))
   number-end n l p = record {
     each = λ k h.
         p .each k h

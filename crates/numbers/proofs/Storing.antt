@@ -18,8 +18,8 @@ use Rattle.rules.specs.Bits.{bit, zeros, run, placed, sum}
 use Rattle.rules.specs.Words.{digit}
 use Rattle.laws.proofs.Bits.{bit-set, bit-set-other}
 use Rattle.laws.proofs.Numbers.{digit-high, digit-right, digit-left, digit-low, digit-kept}
-use Rattle.laws.proofs.Runs.{run-low, run-high, placed-below, placed-in, placed-above, placed-each, placed-none, placed-same}
-use Rattle.laws.proofs.Runs.{placed-join, placed-moved, placed-fewer}
+use Rattle.laws.proofs.Runs.{run-low, run-high, placed-below, placed-in, placed-above, placed-none}
+use Rattle.laws.proofs.Runs.{placed-same, placed-join, placed-moved, placed-fewer}
 use Rattle.numbers.specs.Adds.{Adds}
 use Rattle.numbers.specs.Numbers.{Holds, Replaced}
 use Rattle.numbers.proofs.AddsLaws.{adds-none, adds-as, adds-join}
@@ -35,9 +35,15 @@ replaced-byte s i x h = record {
 }
 
 pub replaced-none : (s : List ℕ) (a x : ℕ) → Replaced s s a 0 x
-replaced-none s a x = record { length-same = refl; below = λ k l. refl; within = λ k l. absurd (omega arith); above = λ k l. refl }
+replaced-none s a x = record {
+  length-same = refl;
+  below = λ k l. refl;
+  within = λ k l. absurd (omega arith);
+  above = λ k l. refl;
+}
 
-pub replaced-more : {s t u : List ℕ} {a n x : ℕ} → Replaced s t a n x → Replaced t u (a + n) 1 (x / 2 ^ (8 * n)) → Replaced s u a (n + 1) x
+pub replaced-more : {s t u : List ℕ} {a n x : ℕ} → Replaced s t a n x → Replaced t u (a + n) 1 (x / 2 ^ (8 * n))
+    → Replaced s u a (n + 1) x
 replaced-more {s} {t} {u} {a} {n} {x} p q = record {
   length-same = q .length-same ∙ p .length-same;
   below = λ k l. q .below k (omega arith) ∙ p .below k l;
@@ -88,7 +94,8 @@ module _ {s t u : List ℕ} (h b a : ℕ) (f : ℕ → ℕ) {x : ℕ} (ends : h 
 
 module _ (s : List ℕ) (i w x : ℕ) (less : w < 8) (small : x < 2 ^ 64) where
   -- the first 64 - w digits, in the eight bytes
-  first : {t : List ℕ} {y : ℕ} → Replaced s t i 8 y → Holds y (sum (λ k. bit s (8 * i + k)) (digit ((x * 2 ^ w) % 2 ^ 64)))
+  first : {t : List ℕ} {y : ℕ} → Replaced s t i 8 y
+      → Holds y (sum (λ k. bit s (8 * i + k)) (digit ((x * 2 ^ w) % 2 ^ 64)))
       → Adds s t (placed (8 * i + w) (64 - w) (digit x))
   first q p =
       let all : w + (64 - w) ≡ 64 = omega arith in
@@ -96,27 +103,33 @@ module _ (s : List ℕ) (i w x : ℕ) (less : w < 8) (small : x < 2 ^ 64) where
       (λ n. rw (← placed-moved (8 * i) w (64 - w) (digit x) n, all)
       (placed-same (8 * i) 64 _ _ (λ k h. digit-left x w 64 k h) n))
       (adds-store (8 * i) 0 i (digit ((x * 2 ^ w) % 2 ^ 64)) (omega arith) (adds-none s _ (placed-none (8 * i) _)) q
-      (record { each = λ k h. p .each k h ∙ ap (λ (j : ℕ). (bit s (8 * i + k) + digit ((x * 2 ^ w) % 2 ^ 64) j) % 2) (omega arith) }))
+      (record {
+        each = λ k h. p .each k h ∙ ap (λ (j : ℕ). (bit s (8 * i + k) + digit ((x * 2 ^ w) % 2 ^ 64) j) % 2)
+            (omega arith);
+      }))
 
   -- the others, in the ninth
   ninth : (n : ℕ) → placed (8 * (i + (w + 63) / 8)) 8 (digit (x / 2 ^ 1 / 2 ^ (63 - w))) n
       ≡ placed (8 * i + w + (64 - w)) w (λ k. digit x (64 - w + k)) n
   ninth n = elim (ℕ-discrete w 0) [
     | yes e ↦
-        placed-fewer (8 * (i + (w + 63) / 8)) 8 0 _ (omega arith) (λ k l. moved k ∙ digit-high x 64 (64 - w + k) small (omega arith)) n
+        placed-fewer (8 * (i + (w + 63) / 8)) 8 0 _ (omega arith)
+        (λ k l. moved k ∙ digit-high x 64 (64 - w + k) small (omega arith)) n
         ∙ placed-none _ _ n
         ∙ sym (rw e (placed-none _ _ n))
     | no d ↦
         let e : 8 * (i + (w + 63) / 8) ≡ 8 * i + w + (64 - w) = omega arith in
         rw e
-        (placed-fewer (8 * i + w + (64 - w)) 8 w _ (omega arith) (λ k l. moved k ∙ digit-high x 64 (64 - w + k) small (omega arith)) n
+        (placed-fewer (8 * i + w + (64 - w)) 8 w _ (omega arith)
+        (λ k l. moved k ∙ digit-high x 64 (64 - w + k) small (omega arith)) n
         ∙ placed-same (8 * i + w + (64 - w)) w _ _ (λ k h. moved k) n)
   ]
     where
       moved : (k : ℕ) → digit (x / 2 ^ 1 / 2 ^ (63 - w)) k ≡ digit x (64 - w + k)
       moved k = digit-right (x / 2 ^ 1) (63 - w) k ∙ digit-right x 1 (k + (63 - w)) ∙ ap (digit x) (omega arith)
 
-  pub adds-inside : {t u : List ℕ} {y : ℕ} → Replaced s t i 8 y → Holds y (sum (λ k. bit s (8 * i + k)) (digit ((x * 2 ^ w) % 2 ^ 64)))
+  pub adds-inside : {t u : List ℕ} {y : ℕ} → Replaced s t i 8 y
+      → Holds y (sum (λ k. bit s (8 * i + k)) (digit ((x * 2 ^ w) % 2 ^ 64)))
       → Adds t u (placed (8 * (i + (w + 63) / 8)) 8 (digit (x / 2 ^ 1 / 2 ^ (63 - w))))
       → Adds s u (placed (8 * i + w) 64 (digit x))
   adds-inside q p r =
@@ -129,7 +142,8 @@ later w x k = digit x (8 - w + k)
 
 -- x is a rest: its digits are added from a place inside byte i on. The first byte has 8 - w of them, each other 8
 module _ {s t : List ℕ} (i w x : ℕ) (less : w < 8) where
-  pub rest-first : Adds s t (placed (8 * i) 8 (digit ((x * 2 ^ w) % 2 ^ 64))) → Adds s t (placed (8 * i + w) (8 - w) (digit x))
+  pub rest-first : Adds s t (placed (8 * i) 8 (digit ((x * 2 ^ w) % 2 ^ 64)))
+      → Adds s t (placed (8 * i + w) (8 - w) (digit x))
   rest-first p =
       let all : w + (8 - w) ≡ 8 = omega arith in
       adds-as
@@ -137,18 +151,22 @@ module _ {s t : List ℕ} (i w x : ℕ) (less : w < 8) where
       (placed-same (8 * i) 8 _ _ (λ k h. digit-left x w 64 k (omega arith)) n)) p
 
   pub rest-more : {u : List ℕ} (j : ℕ) → 0 < j → Adds s t (placed (8 * i + w + (8 - w)) (8 * j - 8) (later w x))
-      → Adds t u (placed (8 * (i + j)) 8 (digit (x / 2 ^ (8 * j - w)))) → Adds s u (placed (8 * i + w + (8 - w)) (8 * (j + 1) - 8) (later w x))
+      → Adds t u (placed (8 * (i + j)) 8 (digit (x / 2 ^ (8 * j - w)))) → Adds s u
+      (placed (8 * i + w + (8 - w)) (8 * (j + 1) - 8) (later w x))
   rest-more j some p q =
       let place : 8 * (i + j) ≡ 8 * i + w + (8 - w) + (8 * j - 8) = omega arith in
       let all : 8 * j - 8 + 8 ≡ 8 * (j + 1) - 8 = omega arith in
       rw all at
       (adds-join (8 * i + w + (8 - w)) (8 * j - 8) 8 (later w x) p
-      (adds-as (λ n. placed-same _ 8 _ _ (λ k h. digit-right x (8 * j - w) k ∙ ap (digit x) (omega arith)) n) (rw place at q)))
+      (adds-as (λ n. placed-same _ 8 _ _ (λ k h. digit-right x (8 * j - w) k ∙ ap (digit x) (omega arith)) n)
+      (rw place at q)))
 
-  pub rest-all : {u : List ℕ} (y c j : ℕ) → x ≡ y % 2 ^ c → 0 < j → c ≤ 8 * j - w → Adds s t (placed (8 * i + w) (8 - w) (digit x))
+  pub rest-all : {u : List ℕ} (y c j : ℕ) → x ≡ y % 2 ^ c → 0 < j → c ≤ 8 * j - w
+      → Adds s t (placed (8 * i + w) (8 - w) (digit x))
       → Adds t u (placed (8 * i + w + (8 - w)) (8 * j - 8) (later w x)) → Adds s u (placed (8 * i + w) c (digit y))
   rest-all y c j e some l p q =
-      adds-as (λ n. placed-fewer (8 * i + w) (8 - w + (8 * j - 8)) c (digit x) (omega arith) past n ∙ placed-same (8 * i + w) c _ _ kept n)
+      adds-as (λ n. placed-fewer (8 * i + w) (8 - w + (8 * j - 8)) c (digit x) (omega arith) past n ∙ placed-same
+      (8 * i + w) c _ _ kept n)
       (adds-join (8 * i + w) (8 - w) (8 * j - 8) (digit x) p q)
     where
       past : (k : ℕ) → c ≤ k → digit x k ≡ 0

@@ -45,8 +45,8 @@ pub fn load(s: &[u8], at: usize) -> u64
         | byte_at(s, at, 7)
 }
 
-// The 64 bits from `turn` on of two numbers, one after the other. A shift by 64 is not allowed, so it is split. Joined by
-// `|`, they compile to a double shift.
+// The 64 bits from `turn` on of two numbers, one after the other. A shift by 64 is not allowed, so it is split. Joined
+// by `|`, they compile to a double shift.
 pub fn across(low: u64, high: u64, turn: usize) -> u64
     requires { ⌜ turn < 64 ⌝ }
     ensures { λ r. ⌜ Holds r (λ k. run 64 (digit low) (digit high) (k + turn)) ⌝ }

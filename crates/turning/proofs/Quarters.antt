@@ -17,7 +17,8 @@ use Rattle.numbers.proofs.AddsLaws.{adds-none}
 use Rattle.numbers.proofs.Storing.{adds-store}
 use Rattle.turning.specs.Turning.{turned}
 
-module _ (b : List ℕ) (f a j : ℕ) {low high : ℕ} (p : Holds low (λ t. bit b (8 * (f + 8 * ((64 * j + a) / 64 % 4)) + t)))
+module _ (b : List ℕ) (f a j : ℕ) {low high : ℕ}
+    (p : Holds low (λ t. bit b (8 * (f + 8 * ((64 * j + a) / 64 % 4)) + t)))
     (q : Holds high (λ t. bit b (8 * (f + 8 * (((64 * j + a) / 64 + 1) % 4)) + t))) where
   -- a bit of the block is one of the bytes from f on
   at-block : {n : ℕ} (t : ℕ) → n ≡ 8 * f + t → bit b n ≡ bit (drop f b) t
@@ -40,7 +41,8 @@ Summed s a b f x = Holds x (λ k. (bit s (8 * a + k) + f (b + k)) % 2)
 
 module _ {s t u v w : List ℕ} (a : ℕ) (f : ℕ → ℕ) {x₀ x₁ x₂ x₃ : ℕ} where
   pub adds-block : Replaced s t a 8 x₀ → Summed s a 0 f x₀ → Replaced t u (a + 8) 8 x₁ → Summed s (a + 8) 64 f x₁
-      → Replaced u v (a + 16) 8 x₂ → Summed s (a + 16) 128 f x₂ → Replaced v w (a + 24) 8 x₃ → Summed s (a + 24) 192 f x₃
+      → Replaced u v (a + 16) 8 x₂ → Summed s (a + 16) 128 f x₂ → Replaced v w (a + 24) 8 x₃
+      → Summed s (a + 24) 192 f x₃
       → Adds s w (placed (8 * a) 256 f)
   adds-block r₀ h₀ r₁ h₁ r₂ h₂ r₃ h₃ =
       adds-store (8 * a) 192 (a + 24) f (omega arith)

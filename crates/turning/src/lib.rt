@@ -23,7 +23,10 @@ fn quarter_at(s: &[u8], from: usize, turn: usize, index: usize) -> u64
 // The quarter of the sums at byte `at`, with quarter `index` of the turned block added.
 fn sum_at(sums: &[u8], at: usize, block: &[u8], from: usize, turn: usize, index: usize) -> u64
     requires { ⌜ (at + 8 ≤ length (now sums)) × (from + 32 ≤ length (now block)) × (turn < 256) × (index < 4) ⌝ }
-    ensures { λ r. ⌜ Holds r (λ k. (bit (now (sums .entry)) (8 * at + k) + turned 256 (drop from (now (block .entry))) turn (64 * index + k)) % 2) ⌝ }
+    ensures { λ r. ⌜
+        Holds r (λ k.
+        (bit (now (sums .entry)) (8 * at + k) + turned 256 (drop from (now (block .entry))) turn (64 * index + k)) % 2)
+        ⌝ }
 {
     numbers::load(sums, at) ^ quarter_at(block, from, turn, index)
 }
@@ -31,7 +34,9 @@ fn sum_at(sums: &[u8], at: usize, block: &[u8], from: usize, turn: usize, index:
 // Adds a block of 256 bits, turned, to the 32 bytes of sums.
 pub fn add_turned(sums: &mut [u8], block: &[u8], turn: usize)
     requires { ⌜ (length (now sums) ≡ 32) × (length (now block) ≡ 32) × (turn < 256) ⌝ }
-    ensures { λ r. ⌜ Adds (now (sums .entry)) (now (sums .exit)) (run 256 (turned 256 (now (block .entry)) turn) zeros) ⌝ }
+    ensures { λ r. ⌜
+        Adds (now (sums .entry)) (now (sums .exit)) (run 256 (turned 256 (now (block .entry)) turn) zeros)
+        ⌝ }
 {
     let first = sum_at(sums, 0, block, 0, turn, 0);
     let second = sum_at(sums, 8, block, 0, turn, 1);
@@ -46,7 +51,9 @@ pub fn add_turned(sums: &mut [u8], block: &[u8], turn: usize)
 // The same where the block, from byte `from` on, and the sums, from byte `to` on, are parts of the same bytes.
 pub fn add_within(s: &mut [u8], to: usize, from: usize, turn: usize)
     requires { ⌜ (to + 32 ≤ length (now s)) × (from + 32 ≤ length (now s)) × (turn < 256) ⌝ }
-    ensures { λ r. ⌜ Adds (now (s .entry)) (now (s .exit)) (placed (8 * to) 256 (turned 256 (drop from (now (s .entry))) turn)) ⌝ }
+    ensures { λ r. ⌜
+        Adds (now (s .entry)) (now (s .exit)) (placed (8 * to) 256 (turned 256 (drop from (now (s .entry))) turn))
+        ⌝ }
 {
     let first = sum_at(s, to, s, from, turn, 0);
     let second = sum_at(s, to + 8, s, from, turn, 1);

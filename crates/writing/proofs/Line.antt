@@ -15,20 +15,25 @@ use lib.Seq.{getD-drop, drop-at}
 use Rattle.rules.specs.Bits.{bit, Bytes, need, zeros, run, placed, Written}
 use Rattle.rules.specs.Words.{digit, padded, tail, tailBits, lineWord, lineBits}
 use Rattle.laws.proofs.Bits.{bit<, bit-drop, bit-cleared, bits-same}
-use Rattle.laws.proofs.Runs.{run-low, run-high, run-each, run-below, run-same, run-none, placed-each, placed-below, placed-in, placed-above}
+use Rattle.laws.proofs.Runs.{run-low, run-high, run-each, run-below, run-none, placed-below, placed-in, placed-above}
 use Rattle.numbers.specs.Adds.{Adds}
 
-pub written-cleared : (b : ℕ) (s t : List ℕ) (k : ℕ) → k ≡ need b → k ≤ length s → t ≡ replicate k 0 ++ drop k s → Written b zeros s t
+pub written-cleared : (b : ℕ) (s t : List ℕ) (k : ℕ) → k ≡ need b → k ≤ length s → t ≡ replicate k 0 ++ drop k s
+    → Written b zeros s t
 written-cleared b s t k e fits cleared = record {
   length-same = ap length cleared ∙ simp (length-append, length-replicate, length-drop) (omega arith);
   bits = λ n h.
       ap (λ (l : List ℕ). bit l n) cleared
       ∙ bit-cleared s k n (omega arith)
       ∙ run-each b zeros zeros n (λ v. 0 ≡ v) (λ l. refl) (λ l. refl);
-  after = rw (← e) (ap (λ (l : List ℕ). drop k l) cleared ∙ drop-at (replicate k 0) (drop k s) k (length-replicate {A = ℕ} k 0));
+  after =
+      rw (← e)
+      (ap (λ (l : List ℕ). drop k l) cleared
+      ∙ drop-at (replicate k 0) (drop k s) k (length-replicate {A = ℕ} k 0));
 }
 
-module _ {b : ℕ} {x y f : ℕ → ℕ} {s t u : List ℕ} (w : Written b x s t) (a : Adds t u f) (sums : (n : ℕ) → n < b → (x n + f n) % 2 ≡ y n)
+module _ {b : ℕ} {x y f : ℕ → ℕ} {s t u : List ℕ} (w : Written b x s t) (a : Adds t u f)
+    (sums : (n : ℕ) → n < b → (x n + f n) % 2 ≡ y n)
     (past : (n : ℕ) → b ≤ n → f n ≡ 0) (bt : Bytes t) (bu : Bytes u) where
   bytes-drop : (s : List ℕ) → Bytes s → Bytes (drop (need b) s)
   bytes-drop s h i = rw (getD-drop (need b) s i 0) (h (need b + i))
@@ -60,9 +65,11 @@ tail-below p d =
     (run-below 10 (digit d) zeros (λ n l. omega arith) (λ n. lit< tt))
 
 module _ (s t u : List ℕ) (bt : Bytes t) (bu : Bytes u) where
-  pub payload-written : (K : ℕ) (x : ℕ → ℕ) → ((n : ℕ) → x n < 2) → Written (lineBits K) zeros s t → Adds t u (placed 0 K x)
+  pub payload-written : (K : ℕ) (x : ℕ → ℕ) → ((n : ℕ) → x n < 2) → Written (lineBits K) zeros s t
+      → Adds t u (placed 0 K x)
       → Written (lineBits K) (padded K x) s u
-  payload-written K x bits w a = written-added w a (λ n l. omega (arith, alone n, below n)) (λ n l. placed-above 0 K x n (omega arith)) bt bu
+  payload-written K x bits w a =
+      written-added w a (λ n l. omega (arith, alone n, below n)) (λ n l. placed-above 0 K x n (omega arith)) bt bu
     where
       alone : (n : ℕ) → placed 0 K x n ≡ padded K x n
       alone n = run-none zeros (run K x zeros) n
@@ -70,18 +77,23 @@ module _ (s t u : List ℕ) (bt : Bytes t) (bu : Bytes u) where
       below : (n : ℕ) → padded K x n < 2
       below = run-below K x zeros (λ n l. bits n) (λ n. lit< tt)
 
-  pub tail-written : (p : List ℕ) (d : ℕ) → Written tailBits zeros s t → Adds t u (placed 0 tailBits (tail p d)) → Written tailBits (tail p d) s u
+  pub tail-written : (p : List ℕ) (d : ℕ) → Written tailBits zeros s t → Adds t u (placed 0 tailBits (tail p d))
+      → Written tailBits (tail p d) s u
   tail-written p d w a =
       written-added w a
-      (λ n l. let e : n - 0 ≡ n = omega arith in rw (placed-in 0 tailBits (tail p d) n (omega arith) l, e) (omega (arith, tail-below p d n)))
+      (λ n l. let e : n - 0 ≡ n = omega arith in rw (placed-in 0 tailBits (tail p d) n (omega arith) l, e)
+      (omega (arith, tail-below p d n)))
       (λ n l. placed-above 0 tailBits (tail p d) n (omega arith)) bt bu
 
-  pub line-written : (K : ℕ) (x : ℕ → ℕ) (p : List ℕ) (d : ℕ) → ((n : ℕ) → x n < 2) → Written (lineBits K) (padded K x) s t
+  pub line-written : (K : ℕ) (x : ℕ → ℕ) (p : List ℕ) (d : ℕ) → ((n : ℕ) → x n < 2)
+      → Written (lineBits K) (padded K x) s t
       → Adds t u (placed K tailBits (tail p d)) → Written (lineBits K) (lineWord K x p d) s u
-  line-written K x p d bits w a = written-added w a joined (λ n l. placed-above K tailBits (tail p d) n (omega arith)) bt bu
+  line-written K x p d bits w a =
+      written-added w a joined (λ n l. placed-above K tailBits (tail p d) n (omega arith)) bt bu
     where
       joined : (n : ℕ) → n < lineBits K → (padded K x n + placed K tailBits (tail p d) n) % 2 ≡ lineWord K x p d n
       joined n l =
           run-each K x (tail p d) n (λ v. (padded K x n + placed K tailBits (tail p d) n) % 2 ≡ v)
           (λ h. rw (run-low K x zeros n h, placed-below K tailBits (tail p d) n h) (omega (arith, bits n)))
-          (λ h. rw (run-high K x zeros n h, placed-in K tailBits (tail p d) n h l) (omega (arith, tail-below p d (n - K))))
+          (λ h. rw (run-high K x zeros n h, placed-in K tailBits (tail p d) n h l)
+          (omega (arith, tail-below p d (n - K))))

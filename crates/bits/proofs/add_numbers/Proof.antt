@@ -53,7 +53,8 @@ loop-again c =
     let next : 64 * k + 64 ≡ 64 * (k + 1) = omega arith in
     let here = at-place (a .from .now) (a .start) k (read .number-at .ensures) in (
       search needs,
-      rw next at (adds-number _ (a .at) k 64 (omega arith) (l .loop .inv .1) here (c .before .before .add-number .ensures)),
+      rw next at (adds-number _ (a .at) k 64 (omega arith) (l .loop .inv .1) here
+          (c .before .before .add-number .ensures)),
     )
 
 same-length : tie.Need-same-length Inv-loop μ-loop

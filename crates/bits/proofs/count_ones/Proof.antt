@@ -34,7 +34,8 @@ add-count c =
     let l = c .before .before .before in
     let s = l .before .before .args .s .now in
     let k = l .loop .k in
-    let more = ones-more s k (l .loop .count) _ (l .loop .inv .2) (omega arith) (c .before .load .ensures) (c .ones-in .ensures) in
+    let more = ones-more s k (l .loop .count) _ (l .loop .inv .2) (omega arith) (c .before .load .ensures)
+    (c .ones-in .ensures) in
     omega (arith, more, ones-below s (64 * (k + 1)), l .before .before .pre)
 
 add-k : tie.Need-add-k Inv-loop μ-loop
@@ -49,7 +50,8 @@ loop-again c =
     let s = l .before .before .args .s .now in (
       search needs,
       search needs,
-      ones-more s (l .loop .k) (l .loop .count) _ (l .loop .inv .2) (omega arith) (c .before .load .ensures) (c .ones-in .ensures),
+      ones-more s (l .loop .k) (l .loop .count) _ (l .loop .inv .2) (omega arith) (c .before .load .ensures)
+          (c .ones-in .ensures),
     )
 
 mul-rest-at : tie.Need-mul-rest-at Inv-loop μ-loop
@@ -67,7 +69,8 @@ counted c =
     let l = c .before .before .before in
     let s = l .before .before .args .s .now in
     let k = l .loop .k in
-    ones-more s k (l .loop .count) _ (l .loop .inv .2) (omega arith) (c .before .rest-at .ensures) (c .ones-in2 .ensures)
+    ones-more s k (l .loop .count) _ (l .loop .inv .2) (omega arith) (c .before .rest-at .ensures)
+    (c .ones-in2 .ensures)
     ∙ ones-all s (64 * (k + 1)) (omega arith)
 
 add-result : tie.Need-add-result Inv-loop μ-loop

@@ -59,7 +59,8 @@ returns c =
     let there = at-place (a .other .now) (a .start) k (read .number-at2 .ensures) in
     let small = xor-lt 64 (read .before .number-at .result) (read .number-at2 .result) (search needs) (search needs) in
     first-different _ _ (a .count) _ (λ n. bit< (a .s .now) (a .at + n)) (λ n. bit< (a .other .now) (a .start + n))
-    (one-found _ k (l .loop .inv .2) (number-sum here there) (a .count) small (c .before .if1 .taken) (c .lowest-one .ensures) (omega arith))
+    (one-found _ k (l .loop .inv .2) (number-sum here there) (a .count) small (c .before .if1 .taken)
+    (c .lowest-one .ensures) (omega arith))
 
 add-k : tie.Need-add-k Inv-loop μ-loop
 add-k c = search needs
@@ -112,7 +113,8 @@ returns-2 c =
     let here = at-place (a .s .now) (a .at) (a .count / 64) (read .before .rest-at .ensures) in
     let there = at-place (a .other .now) (a .start) (a .count / 64) (read .rest-at2 .ensures) in
     first-different _ _ (a .count) _ (λ n. bit< (a .s .now) (a .at + n)) (λ n. bit< (a .other .now) (a .start + n))
-    (one-left _ (a .count) (omega arith) (l .loop .inv .2) (number-sum here there) (c .before .lowest-one2 .ensures) (c .if2 .taken))
+    (one-left _ (a .count) (omega arith) (l .loop .inv .2) (number-sum here there) (c .before .lowest-one2 .ensures)
+    (c .if2 .taken))
 
 returns-3 : tie.Need-returns-3 Inv-loop μ-loop
 returns-3 c =
@@ -122,7 +124,8 @@ returns-3 c =
     let here = at-place (a .s .now) (a .at) (a .count / 64) (read .before .rest-at .ensures) in
     let there = at-place (a .other .now) (a .start) (a .count / 64) (read .rest-at2 .ensures) in
     first-different _ _ (a .count) _ (λ n. bit< (a .s .now) (a .at + n)) (λ n. bit< (a .other .now) (a .start + n))
-    (none-left _ (a .count) (omega arith) (l .loop .inv .2) (number-sum here there) (c .before .lowest-one2 .ensures) (c .if2 .left))
+    (none-left _ (a .count) (omega arith) (l .loop .inv .2) (number-sum here there) (c .before .lowest-one2 .ensures)
+    (c .if2 .left))
 
 pub first-difference-spec : {M : Type 1} → statement M
 first-difference-spec =

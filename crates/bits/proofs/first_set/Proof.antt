@@ -64,8 +64,12 @@ loop-again c =
     let read = c .before in
     let l = read .before .before in
     let a = l .before .before .args in
-    let k = l .loop .k in
-    (search needs, search needs, clear-more _ k (l .loop .inv .2) (at-place (a .s .now) (a .from) k (read .number-at .ensures)) (c .if1 .left))
+    let k = l .loop .k in (
+      search needs,
+      search needs,
+      clear-more _ k (l .loop .inv .2)
+          (at-place (a .s .now) (a .from) k (read .number-at .ensures)) (c .if1 .left),
+    )
 
 mul-rest-at : tie.Need-mul-rest-at Inv-loop μ-loop
 mul-rest-at c = search needs

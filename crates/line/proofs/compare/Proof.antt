@@ -30,7 +30,8 @@ returns-2 c =
     let start = parity .before .before .before in (
       difference-none (simp zero-add at (parity .first-difference .ensures)) (told .before .if1 .left),
       difference-lowest
-          (digits-differ (start .args .delimiter) (start .pre .3) (told .digits-of .ensures) (c .before .first-difference2 .ensures))
+          (digits-differ (start .args .delimiter) (start .pre .3) (told .digits-of .ensures)
+          (c .before .first-difference2 .ensures))
           (c .if2 .taken),
     )
 
@@ -41,7 +42,8 @@ returns-3 c =
     let start = parity .before .before .before in (
       difference-none (simp zero-add at (parity .first-difference .ensures)) (told .before .if1 .left),
       difference-none
-          (digits-differ (start .args .delimiter) (start .pre .3) (told .digits-of .ensures) (c .before .first-difference2 .ensures))
+          (digits-differ (start .args .delimiter) (start .pre .3) (told .digits-of .ensures)
+          (c .before .first-difference2 .ensures))
           (c .if2 .left),
     )
 

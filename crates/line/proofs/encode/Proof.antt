@@ -19,7 +19,8 @@ write-requires c κs =
     let tested = c .before .before in
     let a = tested .before .before .before .args in
     let p =
-    encode-passed (c .before .if1 .left) (a .count) (a .payload .now) (a .delimiter) (length (a .line .now)) (tested .encode .ensures) in
+    encode-passed (c .before .if1 .left) (a .count) (a .payload .now) (a .delimiter) (length (a .line .now))
+    (tested .encode .ensures) in
     (p .1, omega (arith, p .2), p .4, p .5)
 
 same-length : tie.Need-same-length
@@ -32,7 +33,8 @@ returns-2 c =
     let a = tested .before .before .before .args in
     record {
       told =
-          subst (tells (encodeOrder (a .count) (a .payload .now) (a .delimiter) (length (a .line .now)))) (passed .if1 .left)
+          subst (tells (encodeOrder (a .count) (a .payload .now) (a .delimiter) (length (a .line .now))))
+          (passed .if1 .left)
           (tested .encode .ensures);
       line = c .before .before .write .ensures;
     }

@@ -17,8 +17,12 @@ find-parity-requires : tie.Need-find-parity-requires
 find-parity-requires c κs =
     let begun = c .before .before .before .before in
     let start = begun .before .before .before .before in
-    let a = start .args in
-    (search needs, begins-padded (written-begins (a .count) (bit (a .payload .now)) (start .pre .3) (begun .write-payload .ensures)), search needs)
+    let a = start .args in (
+      search needs,
+      begins-padded (written-begins (a .count) (bit (a .payload .now)) (start .pre .3)
+          (begun .write-payload .ensures)),
+      search needs,
+    )
 
 slice-aggregate-add-tail : tie.Need-slice-aggregate-add-tail
 slice-aggregate-add-tail c = search needs
@@ -40,7 +44,8 @@ returns c =
     let p = q .last .1 .1 .0 in (
       p,
       begins-parity (written-begins (a .count) (bit u) (start .pre .3) (begun .write-payload .ensures)) (q .ensures),
-      line-written (a .line .now) _ _ (λ i. known .slice-known2 .given i .fits) (λ i. c .slice-known3 .given i .fits) (a .count) (bit u) p
+      line-written (a .line .now) _ _ (λ i. known .slice-known2 .given i .fits) (λ i. c .slice-known3 .given i .fits)
+          (a .count) (bit u) p
           (a .delimiter) (bit< u) (begun .write-payload .ensures) (c .before .before .add-tail .ensures),
     )
 

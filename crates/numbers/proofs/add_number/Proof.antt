@@ -39,7 +39,8 @@ returns c =
     let read = put .before .before in
     let start = read .before .before .before in
     let a = start .args in
-    adds-inside (a .s .now) (a .byte) (a .weight) (a .number) (start .pre .1) (start .fits .number .fits) (put .store .ensures)
+    adds-inside (a .s .now) (a .byte) (a .weight) (a .number) (start .pre .1) (start .fits .number .fits)
+    (put .store .ensures)
     (number-sum (read .load .ensures) record { each = λ k h. refl }) (c .before .before .add-byte .ensures)
 
 pub add-number-spec : {M : Type 1} → statement M

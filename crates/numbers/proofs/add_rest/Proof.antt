@@ -75,7 +75,8 @@ loop-again c =
       search needs,
       search needs,
       search needs,
-      rest-more (a .byte) (a .weight) _ (start .pre .1) (l .loop .i) (omega arith) (l .loop .inv .3) (c .before .before .add-byte2 .ensures),
+      rest-more (a .byte) (a .weight) _ (start .pre .1) (l .loop .i) (omega arith) (l .loop .inv .3)
+          (c .before .before .add-byte2 .ensures),
     )
 
 same-length : tie.Need-same-length Inv-loop μ-loop
@@ -86,8 +87,10 @@ returns c =
     let first = c .before .before .before .before in
     let start = first .before .before .before in
     let a = start .args in
-    rest-all (a .byte) (a .weight) _ (start .pre .1) (a .number) (a .count) (c .before .loop .i) (ap (λ (n : ℕ). a .number % n) (unit (a .count) (omega arith))) (omega arith)
-    (omega arith) (rest-first (a .byte) (a .weight) _ (start .pre .1) (first .add-byte .ensures)) (c .before .loop .inv .3)
+    rest-all (a .byte) (a .weight) _ (start .pre .1) (a .number) (a .count) (c .before .loop .i)
+    (ap (λ (n : ℕ). a .number % n) (unit (a .count) (omega arith))) (omega arith)
+    (omega arith) (rest-first (a .byte) (a .weight) _ (start .pre .1) (first .add-byte .ensures))
+    (c .before .loop .inv .3)
 
 pub add-rest-spec : {M : Type 1} → statement M
 add-rest-spec =

@@ -12,7 +12,8 @@ use Rattle.numbers.proofs.end_at.Statement.{statement}
 use Rattle.numbers.proofs.end_at.Tie as tie
 
 abbrev Inv-loop : tie.InvT-loop
-Inv-loop s byte number₀ i₀ i-end number i = (i ≤ i-end) × (i-end ≡ length s - byte) × Holds number (run (8 * i) (λ k. bit s (8 * byte + k)) zeros)
+Inv-loop s byte number₀ i₀ i-end number i = (i ≤ i-end) × (i-end ≡ length s - byte) × Holds number
+    (run (8 * i) (λ k. bit s (8 * byte + k)) zeros)
 
 abbrev μ-loop : tie.MeasureT-loop
 μ-loop s byte number₀ i₀ i-end number i = i-end - i
@@ -40,7 +41,8 @@ loop-again c =
     let next : 8 * l .loop .i + 8 ≡ 8 * (l .loop .i + 1) = omega arith in (
       search needs,
       search needs,
-      rw next at (number-more (8 * l .loop .i) 8 f (λ k. bit< (a .s .now) (8 * a .byte + k)) (l .loop .inv .2) (c .byte-at .ensures)),
+      rw next at (number-more (8 * l .loop .i) 8 f (λ k. bit< (a .s .now) (8 * a .byte + k)) (l .loop .inv .2)
+          (c .byte-at .ensures)),
     )
 
 returns : tie.Need-returns Inv-loop μ-loop

@@ -27,7 +27,8 @@ returns c =
     let read = c .before .before .before in
     let start = read .before .before in
     let a = start .args in
-    number-inside (a .s .now) (a .byte) (a .weight) (start .pre .1) (read .load .ensures) (c .before .wide .ensures) (c .across .ensures)
+    number-inside (a .s .now) (a .byte) (a .weight) (start .pre .1) (read .load .ensures) (c .before .wide .ensures)
+    (c .across .ensures)
 
 pub number-at-spec : {M : Type 1} → statement M
 number-at-spec =

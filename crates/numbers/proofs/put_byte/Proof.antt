@@ -26,7 +26,8 @@ same-length c = search needs
 returns : tie.Need-returns
 returns c =
     let a = c .before .before .args in
-    rw (c .lowest .ensures) (replaced-byte (a .s .now) (a .at + a .i) (a .number / 2 ^ (8 * a .i)) (c .before .before .pre .0))
+    rw (c .lowest .ensures) (replaced-byte (a .s .now) (a .at + a .i) (a .number / 2 ^ (8 * a .i))
+    (c .before .before .pre .0))
 
 pub put-byte-spec : {M : Type 1} → statement M
 put-byte-spec =

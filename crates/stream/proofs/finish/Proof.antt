@@ -30,7 +30,8 @@ write-tail-requires c κs =
     let passed = c .before .before .before .before .before .before .before in
     let tested = passed .before in
     let a = tested .before .before .args in
-    let p = finish-passed (passed .if1 .left) (a .stream .held) (a .delimiter) (length (a .line .now)) (tested .finish .ensures) in
+    let p = finish-passed (passed .if1 .left) (a .stream .held) (a .delimiter) (length (a .line .now))
+    (tested .finish .ensures) in
     (p .3, search needs, p .2)
 
 begin-requires : tie.Need-begin-requires

@@ -36,7 +36,13 @@ store-requires-4 c κs =
     let b1 = b2 .before .before .before .before in
     let w1 = b1 .before .before .before .before .before .before .before .before in
     let long = w1 .before .before .before .before .pre .0 in
-    omega (arith, long, b3 .store3 .ensures .length-same, b2 .store2 .ensures .length-same, b1 .store .ensures .length-same)
+    omega (
+      arith,
+      long,
+      b3 .store3 .ensures .length-same,
+      b2 .store2 .ensures .length-same,
+      b1 .store .ensures .length-same,
+    )
 
 same-length : tie.Need-same-length
 same-length c = search needs

@@ -37,7 +37,8 @@ across-requires c κs = search needs
 returns : tie.Need-returns
 returns c =
     let a = c .before .before .before .before .args in
-    quarter-turned (a .s .now) (a .from) (a .turn) (a .index) (c .before .before .load .ensures) (c .before .load2 .ensures) (c .across .ensures)
+    quarter-turned (a .s .now) (a .from) (a .turn) (a .index) (c .before .before .load .ensures)
+    (c .before .load2 .ensures) (c .across .ensures)
 
 pub quarter-at-spec : {M : Type 1} → statement M
 quarter-at-spec =

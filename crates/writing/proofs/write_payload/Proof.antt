@@ -31,8 +31,10 @@ returns c =
     let needed = cleared .before .needed in
     let a = cleared .before .before .before .before .before .args in
     let u = a .payload .now in
-    payload-written (a .line .now) _ _ (λ i. known .slice-known2 .given i .fits) (λ i. c .slice-known3 .given i .fits) (a .count) (bit u) (bit< u)
-    (written-cleared (a .count + 2570) (a .line .now) _ (needed .result) (needed .ensures) (omega arith) (cleared .clear .ensures))
+    payload-written (a .line .now) _ _ (λ i. known .slice-known2 .given i .fits) (λ i. c .slice-known3 .given i .fits)
+    (a .count) (bit u) (bit< u)
+    (written-cleared (a .count + 2570) (a .line .now) _ (needed .result) (needed .ensures) (omega arith)
+    (cleared .clear .ensures))
     (simp zero-add at (c .before .before .add-run .ensures))
 
 pub write-payload-spec : {M : Type 1} → statement M
