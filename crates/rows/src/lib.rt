@@ -20,8 +20,7 @@ fn term_of(word: &[u8], row: usize, j: usize, a: i16) -> u8
     bits::bit_at(word, 256 * j + (row % 256 + turn) % 256)
 }
 
-// Scans the rows, and leaves both loops at the first failed check with its row. The caller hands over the table, so
-// that the checker walks its copy in a function that has no loop.
+// Scans the rows by the table handed over, and leaves both loops at the first failed check with its row.
 fn scan(word: &[u8], table: [[i16; 12]; 69]) -> usize
     requires { ⌜ (length (now word) ≡ 2208) × (table ≡ lines) ⌝ }
     ensures { λ r. ⌜ Scanned (bit (now (word .entry))) r ⌝ }
@@ -54,5 +53,5 @@ pub fn lowest_failing(word: &[u8]) -> usize
     requires { ⌜ length (now word) ≡ 2208 ⌝ }
     ensures { λ r. ⌜ Scanned (bit (now (word .entry))) r ⌝ }
 {
-    scan(word, rules::TABLE)
+    scan(word, rules::table())
 }

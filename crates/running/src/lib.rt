@@ -41,7 +41,7 @@ pub fn add_blocks(checks: &mut [u8], word: &[u8], from: usize, to: usize)
     requires { ⌜ (length (now checks) ≡ 384) × (from ≤ to) × (to ≤ 69) × (32 * to ≤ length (now word)) ⌝ }
     ensures { λ r. ⌜ Added (blocks (now (word .entry)) from to) (now (checks .entry)) (now (checks .exit)) ⌝ }
 {
-    let table = rules::TABLE;
+    let table = rules::table();
     for j in from..to {
         add_block(checks, word, j, table[j]);
     }
