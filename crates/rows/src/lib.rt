@@ -13,10 +13,10 @@ fn term_of(word: &[u8], row: usize, j: usize, a: i16) -> u8
     requires { ⌜ (length (now word) ≡ 2208) × (row < 3072) × (j < 69) × (a ≡ entry fibre (row / 256) j) ⌝ }
     ensures { λ r. ⌜ r ≡ term fibre row (bit (now (word .entry))) j ⌝ }
 {
-    let turn = rules::turn_of(a);
-    if 256 <= turn {
+    if a < 0 {
         return 0;
     }
+    let turn = a as usize;
     bits::bit_at(word, 256 * j + (row % 256 + turn) % 256)
 }
 

@@ -2,7 +2,8 @@
 --
 --   table-facts    69 lines of 12 entries, 828 in all, each from -1 to 255; 275 are not -1, of which 53 are in lines 58 to 69
 --   entry-range    so every entry of the code is from -1 to 255
---   entry-fits     and fits 16 bits
+--   turn-below     and a turn is below 256
+--   entry-fits     an entry fits 16 bits
 --   entry-read     an entry that the code reads is that of the definitions
 use mathlib.Core.Path.{_≡_, refl, ap, _∙_}
 use mathlib.Core.Bool.{Bool}
@@ -62,6 +63,9 @@ count =
 pub entry-range : (i j : ℕ) → T (inRange (entry fibre i j))
 unfolding entry
 entry-range i j = all-at inRange (negsuc 0) tt (getD lines j []) (all-at (all inRange) [] tt lines each j) i
+
+pub turn-below : (i j : ℕ) {a : ℕ} → entry fibre i j ≡ pos a → a < 256
+turn-below i j {a} e = ltb→lt a 256 (rw e at (entry-range i j))
 
 small : (z : ℤ) → T (inRange z) → mag z < 256
 small (pos a) t = ltb→lt a 256 t

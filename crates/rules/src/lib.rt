@@ -4,7 +4,6 @@ ghost use mathlib.Core.Path.{_≡_};
 ghost use Prim.Native.Nat.{_<_};
 ghost use Rattle.rules.specs.Matrix.{entry};
 ghost use Rattle.rules.specs.Table.{fibre, lines};
-ghost use Rattle.rules.specs.Terms.{turn};
 
 // Why a word is not accepted: the lowest shortened place that is 1, the lowest failing row and how many rows fail, the
 // lowest sent parity place that differs, or the lowest delimiter bit that differs.
@@ -132,14 +131,4 @@ pub fn entry_at(i: usize, j: usize) -> i16
 {
     let table = table();
     table[j][i]
-}
-
-// How far the block of an entry is turned, and 256 where it is a zero block.
-pub fn turn_of(entry: i16) -> usize
-    ensures { λ r. ⌜ r ≡ turn entry ⌝ }
-{
-    if entry < 0 {
-        return 256;
-    }
-    entry as usize
 }

@@ -17,10 +17,10 @@ fn add_entry(checks: &mut [u8], word: &[u8], i: usize, j: usize, a: i16)
     requires { ⌜ (length (now checks) ≡ 384) × (32 * j + 32 ≤ length (now word)) × (i < 12) × (j < 69) × (a ≡ entry fibre i j) ⌝ }
     ensures { λ r. ⌜ Adds (now (checks .entry)) (now (checks .exit)) (taken (now (word .entry)) i j) ⌝ }
 {
-    let turn = rules::turn_of(a);
-    if 256 <= turn {
+    if a < 0 {
         return;
     }
+    let turn = a as usize;
     let at = 32 * i;
     let from = 32 * j;
     turning::add_turned(&mut checks[at..at + 32], &word[from..from + 32], turn);
