@@ -20,9 +20,9 @@ fn term_of(word: &[u8], row: usize, j: usize, a: i16) -> u8
     bits::bit_at(word, 256 * j + (row % 256 + turn) % 256)
 }
 
-// Scans the rows by the table handed over, and leaves both loops at the first failed check with its row.
-fn scan(word: &[u8], table: [[i16; 12]; 69]) -> usize
-    requires { ⌜ (length (now word) ≡ 2208) × (table ≡ lines) ⌝ }
+// Scans the rows by the table that it is lent, and leaves both loops at the first failed check with its row.
+fn scan(word: &[u8], table: &[[i16; 12]; 69]) -> usize
+    requires { ⌜ (length (now word) ≡ 2208) × (now table ≡ lines) ⌝ }
     ensures { λ r. ⌜ Scanned (bit (now (word .entry))) r ⌝ }
 {
     let mut row: usize = 0;
@@ -53,5 +53,6 @@ pub fn lowest_failing(word: &[u8]) -> usize
     requires { ⌜ length (now word) ≡ 2208 ⌝ }
     ensures { λ r. ⌜ Scanned (bit (now (word .entry))) r ⌝ }
 {
-    scan(word, rules::table())
+    let table = rules::table();
+    scan(word, &table)
 }

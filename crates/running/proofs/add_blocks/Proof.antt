@@ -26,12 +26,12 @@ loop-holds c =
 mul-add-block : tie.Need-mul-add-block Inv-loop μ-loop
 mul-add-block c = search needs
 
-array-copy-out-add-block : tie.Need-array-copy-out-add-block Inv-loop μ-loop
-array-copy-out-add-block c = search needs
+index-1-add-block : tie.Need-index-1-add-block Inv-loop μ-loop
+index-1-add-block c = search needs
 
 add-block-requires : tie.Need-add-block-requires Inv-loop μ-loop
 add-block-requires c κs =
-    let table = c .before .before .before .before .table in
+    let table = c .before .before .before .before .before .table in
     (search needs, search needs, search needs, rw (table .ensures))
 
 add-j : tie.Need-add-j Inv-loop μ-loop
@@ -42,13 +42,12 @@ loop-less c = search needs
 
 loop-again : tie.Need-loop-again Inv-loop μ-loop
 loop-again c =
-    let l = c .before .before .before .before .before .before in
+    let l = c .before .before .before .before .before .before .before in
     let a = l .before .before .before .before .args in
-    let j = l .loop .j in (
-      search needs,
-      search needs,
-      blocks-join (a .word .now) (a .from) j (j + 1) (omega arith) (omega arith) (l .loop .inv .2) (c .before .before .add-block .ensures),
-    )
+    let j = l .loop .j in
+    let added = c .before .before .add-block .ensures in
+    let joined = blocks-join (a .word .now) (a .from) j (j + 1) (omega arith) (omega arith) (l .loop .inv .2) added in
+    (search needs, search needs, joined)
 
 same-length : tie.Need-same-length Inv-loop μ-loop
 same-length c = search needs
@@ -67,7 +66,7 @@ add-blocks-spec =
     table-requires
     loop-holds
     mul-add-block
-    array-copy-out-add-block
+    index-1-add-block
     add-block-requires
     add-j
     loop-less

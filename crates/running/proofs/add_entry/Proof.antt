@@ -15,7 +15,8 @@ returns : tie.Need-returns
 returns c =
     let start = c .before .before .before in
     let a = start .args in
-    adds-none _ _ (taken-none (a .word .now) (a .i) (a .j) (entry-none (start .fits .a) (start .pre .4) (c .if1 .taken) .1))
+    let e = entry-none (start .fits .a) (start .pre .4) (c .if1 .taken) in
+    adds-none _ _ (taken-none (a .word .now) (a .i) (a .j) (e .1))
 
 cast-turn : tie.Need-cast-turn
 cast-turn c = let start = c .before .before .before in turn-fits (start .fits .a) (c .if1 .left)
@@ -70,7 +71,9 @@ returns-2 c =
     let to : 32 * a .i + 32 - 32 * a .i ≡ 32 = omega arith in
     let from : 32 * a .j + 32 - 32 * a .j ≡ 32 = omega arith in
     adds-as (taken-turned (a .word .now) (a .i) (a .j) e)
-    (rw to (part-turned (a .checks .now) (a .word .now) (added .last .0) (a .i) (a .j) _ (omega arith) (rw (to, from) at (added .ensures))))
+    (rw to
+    (part-turned (a .checks .now) (a .word .now) (added .last .0) (a .i) (a .j) _ (omega arith)
+    (rw (to, from) at (added .ensures))))
 
 pub add-entry-spec : {M : Type 1} → statement M
 add-entry-spec =
