@@ -4,24 +4,27 @@
 --   spot-below     what a block takes of bits is a bit
 --   term-same      so does a term, and
 --   term-below     a term of a word of bits is a bit
---   turn-none, turn-some   what a block of the fibre code takes, by its turn
---   turn-told      the turn of an entry that is passed on as 16 bits is its turn
+--   entry-none     an entry whose 16 bits are below 0 is that of a zero block
+--   entry-some     any other is its turn, and
+--   turn-fits      the cast to the turn loses nothing
 --   check-column   a check of block j of a word alone is that column's term
+use borrow.Author.Tests.{ltb-true}
 use mathlib.Core.Path.{_≡_, refl, ap, _∙_}
-use Prim.Native.Nat.{ℕ, _+_, _-_, _*_, _/_, _%_, _≤_, _<_}
-use native.Mathlib.Nat.{mod-lt}
+use mathlib.Core.Bool.{true, false}
+use Prim.Native.Nat.{ℕ, _+_, _-_, _*_, _/_, _%_, _<_}
+use native.Mathlib.Nat.{mod-lt, not-suc-le-zero}
 use native.Mathlib.Decide.{decLt}
 use native.Mathlib.Omega.{arith}
-use lib.Dec.{T, ltb→lt, lit<}
-use lib.IntN.{ℤ, pos, negsuc}
-use mir.Facts.{toZ-ofZ}
-use mir.Syntax.{w16}
-use mir.Val.{SFits, toZ, ofZ}
+use lib.Dec.{T, lit<}
+use lib.IntN.{ℤ, pos, negsuc, natAbs}
+use lib.Signed.{ltZ, nonNeg}
+use mir.Facts.{toZ-ofZ, fits-natAbs}
+use mir.Syntax.{w16, w64}
+use mir.Val.{SFits, Fits, toZ, ofZ}
 use Rattle.rules.specs.Bits.{zeros, placed}
 use Rattle.rules.specs.Matrix.{Code, entry, check}
-use Rattle.rules.specs.Terms.{spot, term, turn}
+use Rattle.rules.specs.Terms.{spot, term}
 use Rattle.rules.proofs.Sums.{total-one}
-use Rattle.rules.proofs.TableLaws.{inRange}
 use Rattle.rules.proofs.Checks.{place-below, check-columns}
 use Rattle.laws.proofs.Runs.{placed-below, placed-in, placed-above}
 
@@ -37,17 +40,30 @@ spot-zeros : (z : ℕ) (a : ℤ) (r : ℕ) → spot z a zeros r ≡ 0
 spot-zeros z (pos a) r = refl
 spot-zeros z (negsuc n) r = refl
 
--- a block of the fibre code by its turn
-pub turn-none : (a : ℤ) (f : ℕ → ℕ) (r : ℕ) → T (inRange a) → 256 ≤ turn a → spot 256 a f r ≡ 0
-turn-none (pos a) f r t h = absurd (omega (arith, ltb→lt a 256 t))
-turn-none (negsuc n) f r t h = refl
+below-zero : (z : ℤ) → ltZ z (pos 0) ≡ true → (n : ℕ) × (z ≡ negsuc n)
+below-zero (pos a) h = absurd (not-suc-le-zero (ltb-true a 0 h))
+below-zero (negsuc n) h = (n, refl)
 
-pub turn-some : (a : ℤ) (f : ℕ → ℕ) (r : ℕ) → turn a < 256 → spot 256 a f r ≡ f ((r + turn a) % 256)
-turn-some (pos a) f r h = refl
-turn-some (negsuc n) f r h = absurd (omega arith)
+from-zero : (z : ℤ) → ltZ z (pos 0) ≡ false → T (nonNeg z) × (z ≡ pos (natAbs z))
+from-zero (pos a) h = (tt, refl)
+from-zero (negsuc n) h = let z : _≡_ {A = ℕ} 0 1 = cc in absurd (omega arith)
 
-pub turn-told : {a e : ℤ} {t : ℕ} → SFits w16 a → a ≡ e → t ≡ turn (toZ w16 (ofZ w16 a)) → t ≡ turn e
-turn-told fits same told = told ∙ ap turn (toZ-ofZ fits ∙ same)
+-- an entry that is passed on, as its 16 bits are read
+abbrev told : ℤ → ℤ
+told a = toZ w16 (ofZ w16 a)
+
+pub turn-fits : {a : ℤ} → SFits w16 a → ltZ (told a) (pos 0) ≡ false → T (nonNeg (told a)) × Fits w64 (natAbs (told a))
+turn-fits {a} fits t = rw (toZ-ofZ fits) (from-zero a (rw (toZ-ofZ fits) at t) .0, fits-natAbs tt fits)
+
+module _ {a e : ℤ} (fits : SFits w16 a) (same : a ≡ e) where
+  read : told a ≡ e
+  read = toZ-ofZ fits ∙ same
+
+  pub entry-none : ltZ (told a) (pos 0) ≡ true → (n : ℕ) × (e ≡ negsuc n)
+  entry-none t = below-zero e (rw read at t)
+
+  pub entry-some : ltZ (told a) (pos 0) ≡ false → e ≡ pos (natAbs (told a))
+  entry-some t = rw read (from-zero e (rw read at t) .1)
 
 module _ (c : Code) (h : 0 < c .size) (n : ℕ) where
   pub term-same : (x y : ℕ → ℕ) (j : ℕ) → ((t : ℕ) → t < c .size → x (c .size * j + t) ≡ y (c .size * j + t)) → term c n x j ≡ term c n y j

@@ -13,17 +13,16 @@ fn term_of(word: &[u8], row: usize, j: usize, a: i16) -> u8
     requires { ⌜ (length (now word) ≡ 2208) × (row < 3072) × (j < 69) × (a ≡ entry fibre (row / 256) j) ⌝ }
     ensures { λ r. ⌜ r ≡ term fibre row (bit (now (word .entry))) j ⌝ }
 {
-    let turn = rules::turn_of(a);
-    if 256 <= turn {
+    if a < 0 {
         return 0;
     }
+    let turn = a as usize;
     bits::bit_at(word, 256 * j + (row % 256 + turn) % 256)
 }
 
-// Scans the rows, and leaves both loops at the first failed check with its row. The caller hands over the table, so
-// that the checker walks its copy in a function that has no loop.
-fn scan(word: &[u8], table: [[i16; 12]; 69]) -> usize
-    requires { ⌜ (length (now word) ≡ 2208) × (table ≡ lines) ⌝ }
+// Scans the rows by the table that it is lent, and leaves both loops at the first failed check with its row.
+fn scan(word: &[u8], table: &[[i16; 12]; 69]) -> usize
+    requires { ⌜ (length (now word) ≡ 2208) × (now table ≡ lines) ⌝ }
     ensures { λ r. ⌜ Scanned (bit (now (word .entry))) r ⌝ }
 {
     let mut row: usize = 0;
@@ -54,5 +53,6 @@ pub fn lowest_failing(word: &[u8]) -> usize
     requires { ⌜ length (now word) ≡ 2208 ⌝ }
     ensures { λ r. ⌜ Scanned (bit (now (word .entry))) r ⌝ }
 {
-    scan(word, rules::TABLE)
+    let table = rules::table();
+    scan(word, &table)
 }

@@ -2,7 +2,9 @@
 --
 --   table-facts    69 lines of 12 entries, 828 in all, each from -1 to 255; 275 are not -1, of which 53 are in lines 58 to 69
 --   entry-range    so every entry of the code is from -1 to 255
---   entry-fits     and fits 16 bits
+--   turn-below     and a turn is below 256
+--   entry-fits     an entry fits 16 bits
+--   line-length    a line has 12 entries
 --   entry-read     an entry that the code reads is that of the definitions
 use mathlib.Core.Path.{_≡_, refl, ap, _∙_}
 use mathlib.Core.Bool.{Bool}
@@ -63,6 +65,9 @@ pub entry-range : (i j : ℕ) → T (inRange (entry fibre i j))
 unfolding entry
 entry-range i j = all-at inRange (negsuc 0) tt (getD lines j []) (all-at (all inRange) [] tt lines each j) i
 
+pub turn-below : (i j : ℕ) {a : ℕ} → entry fibre i j ≡ pos a → a < 256
+turn-below i j {a} e = ltb→lt a 256 (rw e at (entry-range i j))
+
 small : (z : ℤ) → T (inRange z) → mag z < 256
 small (pos a) t = ltb→lt a 256 t
 small (negsuc n) t = omega (arith, eqb→eq n 0 t)
@@ -70,8 +75,8 @@ small (negsuc n) t = omega (arith, eqb→eq n 0 t)
 pub entry-fits : (i j : ℕ) → SFits w16 (entry fibre i j)
 entry-fits i j = record { sfits = lt-trans (small (entry fibre i j) (entry-range i j)) (lit< tt) }
 
-twelve : (j : ℕ) → j < 69 → length (getD lines j []) ≡ 12
-twelve j h = eqb→eq _ 12 (all-in (λ l. eqb (length l) 12) [] lines twelves j (rw count h))
+pub line-length : (j : ℕ) → j < 69 → length (getD lines j []) ≡ 12
+line-length j h = eqb→eq _ 12 (all-in (λ l. eqb (length l) 12) [] lines twelves j (rw count h))
 
 -- in a list's range its default does not matter
 getD-any : {A : Type 0} (xs : List A) (i : ℕ) (a b : A) → i < length xs → getD xs i a ≡ getD xs i b
@@ -82,7 +87,7 @@ getD-any (x ∷ xs) (suc i) a b h = getD-any xs i a b (le-of-suc-le-suc h)
 -- within the table no default stands for an entry
 entry-as : (i j : ℕ) (d : ℤ) → i < 12 → j < 69 → getD (getD lines j []) i d ≡ entry fibre i j
 unfolding entry
-entry-as i j d hi hj = getD-any (getD lines j []) i d (negsuc 0) (omega (arith, twelve j hj))
+entry-as i j d hi hj = getD-any (getD lines j []) i d (negsuc 0) (omega (arith, line-length j hj))
 
 -- an entry as it is read from the code's table, in 16 bits
 pub entry-read : (i j : ℕ) → i < 12 → j < 69 → toZ w16 (ofZ w16 (getD (getD lines j []) i (pos 0))) ≡ entry fibre i j

@@ -2,7 +2,6 @@
 -- the law check-columns says that a check is the sum mod 2 of its terms.
 --
 --   spot z a f r    what the block of entry a takes at local row r from its column's bits f
---   turn a          how far the block of entry a is turned; 256, which is no turn, for a zero block of the fibre code
 --   term c n w j    what block column j adds to check n of w
 use Prim.Native.Nat.{ℕ, _+_, _*_, _/_, _%_}
 use lib.IntN.{ℤ, pos, negsuc}
@@ -14,7 +13,3 @@ spot z (negsuc n) f r = 0
 
 unfoldable pub term : Code → ℕ → (ℕ → ℕ) → ℕ → ℕ
 term c n w j = spot (c .size) (entry c (n / c .size) j) (λ t. w (c .size * j + t)) (n % c .size)
-
-abbrev pub turn : ℤ → ℕ
-turn (pos a) = a
-turn (negsuc n) = 256

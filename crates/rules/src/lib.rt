@@ -3,8 +3,7 @@
 ghost use mathlib.Core.Path.{_≡_};
 ghost use Prim.Native.Nat.{_<_};
 ghost use Rattle.rules.specs.Matrix.{entry};
-ghost use Rattle.rules.specs.Table.{fibre};
-ghost use Rattle.rules.specs.Terms.{turn};
+ghost use Rattle.rules.specs.Table.{fibre, lines};
 
 // Why a word is not accepted: the lowest shortened place that is 1, the lowest failing row and how many rows fail, the
 // lowest sent parity place that differs, or the lowest delimiter bit that differs.
@@ -45,7 +44,7 @@ pub struct Step {
 }
 
 // Table 142-1, as printed: 69 lines of 12 entries, C1 to C12.
-pub const TABLE: [[i16; 12]; 69] = [
+const TABLE: [[i16; 12]; 69] = [
     [80, -1, -1, 105, -1, -1, 137, -1, -1, 0, 209, 53],
     [-1, 0, 91, -1, 170, 46, -1, 118, 208, -1, -1, -1],
     [-1, -1, -1, -1, 250, -1, 104, 15, 0, -1, 252, 93],
@@ -117,20 +116,19 @@ pub const TABLE: [[i16; 12]; 69] = [
     [27, -1, 42, 234, 228, 241, 94, 192, 0, 215, 109, 88],
 ];
 
+// A copy of the table. It is asked for once, before a loop: a constant that is indexed in a loop is built anew at each
+// read. No other function names the constant, so the checker walks its 828 entries once.
+pub fn table() -> [[i16; 12]; 69]
+    ensures { λ r. ⌜ r ≡ lines ⌝ }
+{
+    TABLE
+}
+
 // The entry of block row i, block column j, both counted from 0. For crates above, which show that both are in range.
 pub fn entry_at(i: usize, j: usize) -> i16
     requires { ⌜ (i < 12) × (j < 69) ⌝ }
     ensures { λ r. ⌜ r ≡ entry fibre i j ⌝ }
 {
-    TABLE[j][i]
-}
-
-// How far the block of an entry is turned, and 256 where it is a zero block.
-pub fn turn_of(entry: i16) -> usize
-    ensures { λ r. ⌜ r ≡ turn entry ⌝ }
-{
-    if entry < 0 {
-        return 256;
-    }
-    entry as usize
+    let table = table();
+    table[j][i]
 }

@@ -9,36 +9,35 @@
 --   blocks-join    blocks and those after them
 --   first-blocks   blocks 0 to e - 1 of a word are its first 256 e places, and nothing after them
 --   blocks-piece   where b bits of p were added at h to a word of zeros, the blocks that have these places are those bits alone
-use mathlib.Core.Path.{_≡_, refl, sym, ap, _∙_}
+use mathlib.Core.Path.{_≡_, refl, ap, _∙_}
 use mathlib.Core.List.{List}
 use Prim.Native.Nat.{ℕ, _+_, _-_, _*_, _%_, _≤_, _<_}
 use native.Mathlib.Omega.{arith}
 use lib.Dec.{lit<}
+use lib.IntN.{pos, negsuc}
 use lib.ListN.{replicate}
 use Rattle.rules.specs.Bits.{bit, zeros, run, placed}
 use Rattle.rules.specs.Matrix.{entry}
 use Rattle.rules.specs.Table.{fibre}
-use Rattle.rules.specs.Terms.{spot, turn, term}
+use Rattle.rules.specs.Terms.{spot, term}
 use Rattle.rules.specs.Streams.{Added}
 use Rattle.rules.proofs.Checks.{block-of, local-of}
-use Rattle.rules.proofs.TableLaws.{entry-range}
 use Rattle.laws.proofs.Bits.{bit<, bit-zeros}
 use Rattle.laws.proofs.Runs.{run-low, run-none, run-same, run-join, placed-below, placed-above, placed-each, placed-bits}
 use Rattle.laws.proofs.Runs.{placed-none, placed-same, placed-whole}
-use Rattle.laws.proofs.Columns.{turn-none, turn-some, check-column}
+use Rattle.laws.proofs.Columns.{check-column}
 use Rattle.laws.proofs.Running.{added-none, added-as, added-join}
 use Rattle.numbers.specs.Adds.{Adds}
 use Rattle.numbers.proofs.AddsLaws.{adds-then, adds-as}
 use Rattle.running.specs.Running.{blocks, taken}
 
 module _ (w : List ℕ) (i j : ℕ) where
-  pub taken-none : 256 ≤ turn (entry fibre i j) → (n : ℕ) → taken w i j n ≡ 0
-  taken-none h n =
-      placed-each (256 * i) 256 _ n (λ v. v ≡ 0) (λ l. refl) (λ l k. turn-none (entry fibre i j) _ _ (entry-range i j) h) (λ l. refl)
+  pub taken-none : {m : ℕ} → entry fibre i j ≡ negsuc m → (n : ℕ) → taken w i j n ≡ 0
+  taken-none e n = placed-each (256 * i) 256 _ n (λ v. v ≡ 0) (λ l. refl) (λ l k. rw e) (λ l. refl)
 
-  pub taken-turned : (a : ℕ) → a ≡ turn (entry fibre i j) → a < 256 → (n : ℕ)
+  pub taken-turned : {a : ℕ} → entry fibre i j ≡ pos a → (n : ℕ)
       → placed (256 * i) 256 (λ t. bit w (256 * j + (t + a) % 256)) n ≡ taken w i j n
-  taken-turned a e h = placed-same (256 * i) 256 _ _ (λ r b. rw e (sym (turn-some (entry fibre i j) _ r (omega arith))))
+  taken-turned e n = rw e
 
 abbrev pub column : List ℕ → ℕ → ℕ → ℕ
 column w j n = term fibre n (bit w) j

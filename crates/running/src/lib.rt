@@ -17,21 +17,21 @@ fn add_entry(checks: &mut [u8], word: &[u8], i: usize, j: usize, a: i16)
     requires { ⌜ (length (now checks) ≡ 384) × (32 * j + 32 ≤ length (now word)) × (i < 12) × (j < 69) × (a ≡ entry fibre i j) ⌝ }
     ensures { λ r. ⌜ Adds (now (checks .entry)) (now (checks .exit)) (taken (now (word .entry)) i j) ⌝ }
 {
-    let turn = rules::turn_of(a);
-    if 256 <= turn {
+    if a < 0 {
         return;
     }
+    let turn = a as usize;
     let at = 32 * i;
     let from = 32 * j;
     turning::add_turned(&mut checks[at..at + 32], &word[from..from + 32], turn);
 }
 
 // Adds block j of the word, by the entries of its line.
-fn add_block(checks: &mut [u8], word: &[u8], j: usize, line: [i16; 12])
-    requires { ⌜ (length (now checks) ≡ 384) × (32 * j + 32 ≤ length (now word)) × (j < 69) × (line ≡ getD lines j []) ⌝ }
+fn add_block(checks: &mut [u8], word: &[u8], j: usize, line: &[i16])
+    requires { ⌜ (length (now checks) ≡ 384) × (32 * j + 32 ≤ length (now word)) × (j < 69) × (now line ≡ getD lines j []) ⌝ }
     ensures { λ r. ⌜ Added (blocks (now (word .entry)) j (j + 1)) (now (checks .entry)) (now (checks .exit)) ⌝ }
 {
-    for i in 0..12 {
+    for i in 0..line.len() {
         add_entry(checks, word, i, j, line[i]);
     }
 }
@@ -41,9 +41,9 @@ pub fn add_blocks(checks: &mut [u8], word: &[u8], from: usize, to: usize)
     requires { ⌜ (length (now checks) ≡ 384) × (from ≤ to) × (to ≤ 69) × (32 * to ≤ length (now word)) ⌝ }
     ensures { λ r. ⌜ Added (blocks (now (word .entry)) from to) (now (checks .entry)) (now (checks .exit)) ⌝ }
 {
-    let table = rules::TABLE;
+    let table = rules::table();
     for j in from..to {
-        add_block(checks, word, j, table[j]);
+        add_block(checks, word, j, &table[j]);
     }
 }
 

@@ -1,34 +1,31 @@
--- `rows::term_of` meets its contract.
+-- `rows::term_of` meets its contract: a zero block adds nothing, and any other the bit that its turn points to.
 use borrow.Author.Needs.{needs}
-use mathlib.Core.Path.{sym, _∙_}
-use Prim.Native.Nat.{_+_, _*_, _/_, _%_}
+use mathlib.Core.Path.{_∙_}
+use Prim.Native.Nat.{_/_}
 use native.Mathlib.Omega.{arith}
-use Rattle.rules.specs.Bits.{bit}
-use Rattle.rules.specs.Matrix.{entry}
-use Rattle.rules.specs.Table.{fibre}
 use Rattle.rules.specs.Terms.{term}
-use Rattle.rules.proofs.TableLaws.{entry-range}
-use Rattle.laws.proofs.Columns.{turn-none, turn-some, turn-told}
+use Rattle.rules.proofs.TableLaws.{turn-below}
+use Rattle.laws.proofs.Columns.{entry-none, entry-some, turn-fits}
 use Rattle.rows.proofs.term_of.Statement.{statement}
 use Rattle.rows.proofs.term_of.Tie as tie
-
-turn-of-requires : tie.Need-turn-of-requires
-turn-of-requires c κs = search needs
 
 returns : tie.Need-returns
 unfolding term
 returns c =
-    let start = c .before .before .before in
-    let a = start .args in
-    let e = entry fibre (a .row / 256) (a .j) in
-    let t = turn-told (start .fits .a) (start .pre .3) (c .before .turn-of .ensures) in
-    sym (turn-none e (λ t. bit (a .word .now) (256 * a .j + t)) (a .row % 256) (entry-range (a .row / 256) (a .j)) (omega arith))
+    let start = c .before .before in
+    rw (entry-none (start .fits .a) (start .pre .3) (c .if1 .taken) .1)
+
+cast-turn : tie.Need-cast-turn
+cast-turn c = let start = c .before .before in turn-fits (start .fits .a) (c .if1 .left)
 
 mul-bit-at : tie.Need-mul-bit-at
 mul-bit-at c = search needs
 
 add-bit-at : tie.Need-add-bit-at
-add-bit-at c = search needs
+add-bit-at c =
+    let start = c .before .before in
+    let e = entry-some (start .fits .a) (start .pre .3) (c .if1 .left) in
+    record { fits = omega (arith, turn-below (start .args .row / 256) (start .args .j) e) }
 
 add-bit-at-2 : tie.Need-add-bit-at-2
 add-bit-at-2 c = search needs
@@ -39,18 +36,15 @@ bit-at-requires c κs = search needs
 returns-2 : tie.Need-returns-2
 unfolding term
 returns-2 c =
-    let start = c .before .before .before .before in
-    let a = start .args in
-    let e = entry fibre (a .row / 256) (a .j) in
-    let t = turn-told (start .fits .a) (start .pre .3) (c .before .before .turn-of .ensures) in
-    c .bit-at .ensures ∙ rw t (sym (turn-some e (λ t. bit (a .word .now) (256 * a .j + t)) (a .row % 256) (omega arith)))
+    let start = c .before .before .before in
+    c .bit-at .ensures ∙ rw (entry-some (start .fits .a) (start .pre .3) (c .before .if1 .left))
 
 pub term-of-spec : {M : Type 1} → statement M
 term-of-spec =
     tie.close
     (tie.spec
-    turn-of-requires
     returns
+    cast-turn
     mul-bit-at
     add-bit-at
     add-bit-at-2

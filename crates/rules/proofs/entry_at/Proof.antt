@@ -1,10 +1,12 @@
--- `rules::entry_at` meets its contract: the constant of the code is the table of the definitions.
+-- `rules::entry_at` meets its contract: it reads the table of the definitions.
 use borrow.Author.Needs.{needs}
 use native.Mathlib.Omega.{arith}
-use Rattle.rules.specs.Table.{lines}
 use Rattle.rules.proofs.TableLaws.{entry-read}
 use Rattle.rules.proofs.entry_at.Statement.{statement}
 use Rattle.rules.proofs.entry_at.Tie as tie
+
+table-requires : tie.Need-table-requires
+table-requires c κs = search needs
 
 mul-result : tie.Need-mul-result
 mul-result c = search needs
@@ -19,8 +21,9 @@ index-2-result : tie.Need-index-2-result
 index-2-result c = search needs
 
 returns : tie.Need-returns
-unfolding lines
-returns c = entry-read (c .before .args .i) (c .before .args .j) (omega arith) (omega arith)
+returns c =
+    let a = c .before .before .args in
+    rw (c .before .table .ensures) (entry-read (a .i) (a .j) (omega arith) (omega arith))
 
 pub entry-at-spec : {M : Type 1} → statement M
-entry-at-spec = tie.close (tie.spec mul-result mul-result-2 index-1-result index-2-result returns)
+entry-at-spec = tie.close (tie.spec table-requires mul-result mul-result-2 index-1-result index-2-result returns)

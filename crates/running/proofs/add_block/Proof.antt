@@ -1,10 +1,11 @@
 -- `running::add_block` meets its contract. The invariant: the entries passed have added their terms.
 use borrow.Author.Needs.{needs}
-use mathlib.Core.Path.{_≡_}
+use mathlib.Core.Path.{_≡_, ap, _∙_}
 use Prim.Native.Nat.{_-_, _*_, _≤_}
 use native.Mathlib.Omega.{arith}
+use lib.ListN.{length}
 use Rattle.rules.specs.Bits.{zeros, run}
-use Rattle.rules.proofs.TableLaws.{entry-read}
+use Rattle.rules.proofs.TableLaws.{line-length, entry-read}
 use Rattle.laws.proofs.Runs.{run-none}
 use Rattle.numbers.specs.Adds.{Adds}
 use Rattle.numbers.proofs.AddsLaws.{adds-none}
@@ -13,10 +14,11 @@ use Rattle.running.proofs.add_block.Statement.{statement}
 use Rattle.running.proofs.add_block.Tie as tie
 
 abbrev Inv-loop : tie.InvT-loop
-Inv-loop checks₀ word j line i₀ checks i = (i ≤ 12) × Adds checks₀ checks (run (256 * i) (column word j) zeros)
+Inv-loop checks₀ word j line i₀ i-end checks i =
+    (i ≤ length line) × Adds checks₀ checks (run (256 * i) (column word j) zeros)
 
 abbrev μ-loop : tie.MeasureT-loop
-μ-loop checks₀ word j line i₀ checks i = 12 - i
+μ-loop checks₀ word j line i₀ i-end checks i = length line - i
 
 loop-holds : tie.Need-loop-holds Inv-loop μ-loop
 loop-holds c = (search needs, adds-none _ _ (run-none _ _))
@@ -24,15 +26,16 @@ loop-holds c = (search needs, adds-none _ _ (run-none _ _))
 mul-add-entry : tie.Need-mul-add-entry Inv-loop μ-loop
 mul-add-entry c = search needs
 
-array-copy-out-add-entry : tie.Need-array-copy-out-add-entry Inv-loop μ-loop
-array-copy-out-add-entry c = search needs
+shared-slice-copy-out-add-entry : tie.Need-shared-slice-copy-out-add-entry Inv-loop μ-loop
+shared-slice-copy-out-add-entry c = search needs
 
 add-entry-requires : tie.Need-add-entry-requires Inv-loop μ-loop
 add-entry-requires c κs =
     let l = c .before .before .before in
     let start = l .before .before .before in
+    let n = ap length (start .pre .3) ∙ line-length (start .args .j) (start .pre .2) in
     let read = entry-read (l .loop .i) (start .args .j) (omega arith) (omega arith) in
-    (search needs, search needs, search needs, search needs, rw (start .pre .3) read)
+    (search needs, search needs, omega arith, search needs, rw (start .pre .3) read)
 
 add-i : tie.Need-add-i Inv-loop μ-loop
 add-i c = search needs
@@ -51,9 +54,11 @@ same-length c = search needs
 
 returns : tie.Need-returns Inv-loop μ-loop
 returns c =
-    let a = c .before .before .before .before .args in
+    let start = c .before .before .before .before in
+    let a = start .args in
+    let n = ap length (start .pre .3) ∙ line-length (a .j) (start .pre .2) in
     let e : c .before .loop .i ≡ 12 = omega arith in
-    added-block (a .word .now) (a .j) (c .before .before .before .before .pre .2) (rw e at (c .before .loop .inv .1))
+    added-block (a .word .now) (a .j) (start .pre .2) (rw e at (c .before .loop .inv .1))
 
 pub add-block-spec : {M : Type 1} → statement M
 add-block-spec =
@@ -63,7 +68,7 @@ add-block-spec =
     μ-loop
     loop-holds
     mul-add-entry
-    array-copy-out-add-entry
+    shared-slice-copy-out-add-entry
     add-entry-requires
     add-i
     loop-less

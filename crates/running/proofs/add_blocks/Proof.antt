@@ -1,9 +1,8 @@
 -- `running::add_blocks` meets its contract. The invariant: the blocks passed are added.
 use borrow.Author.Needs.{needs}
-use mathlib.Core.Path.{_≡_, refl}
+use mathlib.Core.Path.{_≡_}
 use Prim.Native.Nat.{_+_, _-_, _≤_}
 use native.Mathlib.Omega.{arith}
-use Rattle.rules.specs.Table.{lines}
 use Rattle.rules.specs.Streams.{Added}
 use Rattle.running.specs.Running.{blocks}
 use Rattle.running.proofs.Blocks.{blocks-none, blocks-join}
@@ -16,18 +15,24 @@ Inv-loop checks₀ word from to table j₀ checks j = (from ≤ j) × (j ≤ to)
 abbrev μ-loop : tie.MeasureT-loop
 μ-loop checks₀ word from to table j₀ checks j = to - j
 
+table-requires : tie.Need-table-requires Inv-loop μ-loop
+table-requires c κs = search needs
+
 loop-holds : tie.Need-loop-holds Inv-loop μ-loop
-loop-holds c = (search needs, search needs, blocks-none (c .before .before .args .word .now) _ (c .before .before .args .from))
+loop-holds c =
+    let a = c .before .before .before .args in
+    (search needs, search needs, blocks-none (a .word .now) _ (a .from))
 
 mul-add-block : tie.Need-mul-add-block Inv-loop μ-loop
 mul-add-block c = search needs
 
-array-copy-out-add-block : tie.Need-array-copy-out-add-block Inv-loop μ-loop
-array-copy-out-add-block c = search needs
+index-1-add-block : tie.Need-index-1-add-block Inv-loop μ-loop
+index-1-add-block c = search needs
 
 add-block-requires : tie.Need-add-block-requires Inv-loop μ-loop
-unfolding lines
-add-block-requires c κs = (search needs, search needs, search needs, refl)
+add-block-requires c κs =
+    let table = c .before .before .before .before .before .table in
+    (search needs, search needs, search needs, rw (table .ensures))
 
 add-j : tie.Need-add-j Inv-loop μ-loop
 add-j c = search needs
@@ -37,19 +42,20 @@ loop-less c = search needs
 
 loop-again : tie.Need-loop-again Inv-loop μ-loop
 loop-again c =
-    let l = c .before .before .before .before .before .before in
-    let a = l .before .before .before .args in
-    let j = l .loop .j in (
-      search needs,
-      search needs,
-      blocks-join (a .word .now) (a .from) j (j + 1) (omega arith) (omega arith) (l .loop .inv .2) (c .before .before .add-block .ensures),
-    )
+    let l = c .before .before .before .before .before .before .before in
+    let a = l .before .before .before .before .args in
+    let j = l .loop .j in
+    let added = c .before .before .add-block .ensures in
+    let joined = blocks-join (a .word .now) (a .from) j (j + 1) (omega arith) (omega arith) (l .loop .inv .2) added in
+    (search needs, search needs, joined)
 
 same-length : tie.Need-same-length Inv-loop μ-loop
 same-length c = search needs
 
 returns : tie.Need-returns Inv-loop μ-loop
-returns c = let e : c .before .loop .j ≡ c .before .before .before .before .args .to = omega arith in rw e at (c .before .loop .inv .2)
+returns c =
+    let e : c .before .loop .j ≡ c .before .before .before .before .before .args .to = omega arith in
+    rw e at (c .before .loop .inv .2)
 
 pub add-blocks-spec : {M : Type 1} → statement M
 add-blocks-spec =
@@ -57,9 +63,10 @@ add-blocks-spec =
     (tie.spec
     Inv-loop
     μ-loop
+    table-requires
     loop-holds
     mul-add-block
-    array-copy-out-add-block
+    index-1-add-block
     add-block-requires
     add-j
     loop-less

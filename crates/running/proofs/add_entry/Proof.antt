@@ -3,22 +3,23 @@ use borrow.Author.Needs.{needs}
 use mathlib.Core.Path.{_≡_}
 use Prim.Native.Nat.{_+_, _-_, _*_}
 use native.Mathlib.Omega.{arith}
-use Rattle.laws.proofs.Columns.{turn-told}
+use Rattle.rules.proofs.TableLaws.{turn-below}
+use Rattle.laws.proofs.Columns.{entry-none, entry-some, turn-fits}
 use Rattle.numbers.proofs.AddsLaws.{adds-none, adds-as}
 use Rattle.running.proofs.Blocks.{taken-none, taken-turned}
 use Rattle.turning.proofs.Parts.{part-turned}
 use Rattle.running.proofs.add_entry.Statement.{statement}
 use Rattle.running.proofs.add_entry.Tie as tie
 
-turn-of-requires : tie.Need-turn-of-requires
-turn-of-requires c κs = search needs
-
 returns : tie.Need-returns
 returns c =
-    let start = c .before .before .before .before in
+    let start = c .before .before .before in
     let a = start .args in
-    let t = turn-told (start .fits .a) (start .pre .4) (c .before .turn-of .ensures) in
-    adds-none _ _ (taken-none (a .word .now) (a .i) (a .j) (omega arith))
+    let e = entry-none (start .fits .a) (start .pre .4) (c .if1 .taken) in
+    adds-none _ _ (taken-none (a .word .now) (a .i) (a .j) (e .1))
+
+cast-turn : tie.Need-cast-turn
+cast-turn c = let start = c .before .before .before in turn-fits (start .fits .a) (c .if1 .left)
 
 mul-at : tie.Need-mul-at
 mul-at c = search needs
@@ -51,7 +52,11 @@ part-add-turned-end-2 : tie.Need-part-add-turned-end-2
 part-add-turned-end-2 c = search needs
 
 add-turned-requires : tie.Need-add-turned-requires
-add-turned-requires c κs = search needs
+add-turned-requires c κs =
+    let tested = c .before .before in
+    let start = tested .before .before .before in
+    let e = entry-some (start .fits .a) (start .pre .4) (tested .if1 .left) in
+    (search needs, search needs, turn-below (start .args .i) (start .args .j) e)
 
 same-length : tie.Need-same-length
 same-length c = search needs
@@ -59,21 +64,23 @@ same-length c = search needs
 returns-2 : tie.Need-returns-2
 returns-2 c =
     let added = c .before .before .add-turned in
-    let told = c .before .before .before .before .before .before in
-    let start = told .before .before .before in
+    let tested = c .before .before .before .before .before in
+    let start = tested .before .before .before in
     let a = start .args in
-    let t = turn-told (start .fits .a) (start .pre .4) (told .turn-of .ensures) in
+    let e = entry-some (start .fits .a) (start .pre .4) (tested .if1 .left) in
     let to : 32 * a .i + 32 - 32 * a .i ≡ 32 = omega arith in
     let from : 32 * a .j + 32 - 32 * a .j ≡ 32 = omega arith in
-    adds-as (taken-turned (a .word .now) (a .i) (a .j) _ t (omega arith))
-    (rw to (part-turned (a .checks .now) (a .word .now) (added .last .0) (a .i) (a .j) _ (omega arith) (rw (to, from) at (added .ensures))))
+    adds-as (taken-turned (a .word .now) (a .i) (a .j) e)
+    (rw to
+    (part-turned (a .checks .now) (a .word .now) (added .last .0) (a .i) (a .j) _ (omega arith)
+    (rw (to, from) at (added .ensures))))
 
 pub add-entry-spec : {M : Type 1} → statement M
 add-entry-spec =
     tie.close
     (tie.spec
-    turn-of-requires
     returns
+    cast-turn
     mul-at
     mul-from
     add-add-turned
