@@ -45,7 +45,7 @@ enum Call {
     Pieces(usize),
 }
 
-/// The sizes make 1, 8, 57 and 14,392 pieces. 256 bits are a block.
+/// The sizes make 1, 8, 57 and 14,392 pieces; 256 bits are a block.
 const CALLS: [(&str, Call); 9] = [
     ("encode", Call::Encode),
     ("full-word check", Call::Word),
@@ -55,7 +55,7 @@ const CALLS: [(&str, Call); 9] = [
     ("stream, 1 piece", Call::Pieces(PAYLOAD_MOST)),
     ("stream, 8 pieces", Call::Pieces(1799)),
     ("stream, 57 pieces", Call::Pieces(256)),
-    ("stream, 14392 pieces", Call::Pieces(1)),
+    ("stream, single bits", Call::Pieces(1)),
 ];
 
 /// What a call writes: the line word, the full word, the running checks, the tail.
