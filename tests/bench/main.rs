@@ -1,60 +1,318 @@
-//! The measured program: `bench CALL` makes one of the archive's three calls (encode, word or line; none
-//! makes no call) for each of 1,000 full-size payloads and prints the time a word, in nanoseconds.
+//! The benchmark's program: every call on full-size payloads, ours and the yardstick's.
+//!   bench compare     compares them on a few words, and measures nothing; ends with `N cases, M wrong`
+//!   bench count       makes each call on all words, between two marks for count.c
+//!   bench time        times each, and says the median of several runs
+//! The last two say a line for each measurement: nanoseconds a word (0 in count), words, ours or Rust, the call.
 //!
-//! The payloads are random, the same at every run. The words to be checked are right ones, from the
-//! yardstick. The buffers to be written were written before and are cleared, so no page is new.
+//! The payloads are random, the same at every run. Before anything is measured, every call is made by both on the same
+//! words, and each answer and each byte that is written is compared. Where any differs, nothing is measured, and the
+//! exit status is 1. So all that is written was written to before, and no page is new.
 
 #![allow(dead_code)] // the yardstick has more than is used here
 
 #[path = "../yardstick/archive.rs"]
 mod archive;
+mod measured;
 #[path = "../yardstick/paper.rs"]
 mod paper;
 #[path = "../yardstick/random.rs"]
 mod random;
+#[path = "../yardstick/stream.rs"]
+mod stream;
 #[path = "../yardstick/table.rs"]
 mod table;
 
-use paper::{bytes_for, line_word, Code, PAYLOAD_MOST};
+use paper::*;
+use std::time::Instant;
+use stream::{Columns, Stream};
 
+/// The words of a measurement; those in single bits, which take long; and those of a comparison alone.
 const WORDS: usize = 1000;
+const BITWISE_WORDS: usize = 10;
+const FEW_WORDS: usize = 3;
+const RUNS: usize = 5;
 const DELIMITER: usize = 341;
+const TAIL_BYTES: usize = 322;
 
+#[derive(Clone, Copy)]
+enum Call {
+    Encode,
+    Word,
+    Line,
+    Complete,
+    Finish,
+    /// A stream in pieces of so many bits, the last one shorter where they don't divide the payload, and its finish.
+    Pieces(usize),
+}
+
+/// The sizes make 1, 8, 57 and 14,392 pieces; 256 bits are a block.
+const CALLS: [(&str, Call); 9] = [
+    ("encode", Call::Encode),
+    ("full-word check", Call::Word),
+    ("line check", Call::Line),
+    ("complete", Call::Complete),
+    ("finish of a stream", Call::Finish),
+    ("stream, 1 piece", Call::Pieces(PAYLOAD_MOST)),
+    ("stream, 8 pieces", Call::Pieces(1799)),
+    ("stream, 57 pieces", Call::Pieces(256)),
+    ("stream, single bits", Call::Pieces(1)),
+];
+
+/// What a call writes: the line word, the full word, the running checks, the tail.
+#[derive(Clone, PartialEq)]
+struct Written {
+    line: Vec<u8>,
+    word: Vec<u8>,
+    checks: Vec<u8>,
+    tail: Vec<u8>,
+}
+
+/// A payload, its right words, its running checks, and its pieces for the call at hand, each from a new byte on.
 struct Sample {
     payload: Vec<u8>,
     word: Vec<u8>,
     line: Vec<u8>,
-    output: Vec<u8>,
+    checks: Vec<u8>,
+    pieces: Vec<u8>,
+}
+
+#[derive(Clone, Copy)]
+enum Engine {
+    Ours,
+    Rust,
+}
+
+struct Bench {
+    code: Code,
+    columns: Columns,
+    samples: Vec<Sample>,
+    /// A buffer of each kind for each sample and engine.
+    ours: Vec<Written>,
+    rust: Vec<Written>,
+}
+
+/// How many words a call is made on.
+fn words_of(call: Call, most: usize) -> usize {
+    match call {
+        Call::Pieces(1) => most.min(BITWISE_WORDS),
+        _ => most,
+    }
+}
+
+/// The payload in pieces of so many bits.
+fn cut(payload: &[u8], size: usize) -> Vec<u8> {
+    let mut pieces = Vec::new();
+    for at in (0..PAYLOAD_MOST).step_by(size) {
+        let from = pieces.len();
+        pieces.resize(from + bytes_for(size), 0);
+        for place in 0..size.min(PAYLOAD_MOST - at) {
+            if bit(payload, at + place) == 1 {
+                flip(&mut pieces[from..], place);
+            }
+        }
+    }
+    pieces
+}
+
+/// Calls what is given once for each piece: its bits and its bytes.
+fn each_piece(pieces: &[u8], size: usize, mut take: impl FnMut(usize, usize, &[u8])) {
+    for (n, bytes) in pieces.chunks(bytes_for(size)).enumerate() {
+        let held = n * size;
+        let count = size.min(PAYLOAD_MOST - held);
+        take(held, count, &bytes[..bytes_for(count)]);
+    }
+}
+
+/// One call of the proved crates. Each answer's number is added to the sum that comes back: 0 where all is fine.
+fn call_ours(call: Call, sample: &Sample, out: &mut Written) -> u64 {
+    match call {
+        Call::Encode => archive::encode(PAYLOAD_MOST, &sample.payload, DELIMITER, &mut out.line),
+        Call::Word => archive::check_word(PAYLOAD_MOST, &sample.word),
+        Call::Line => archive::check_line(PAYLOAD_MOST, &sample.line, DELIMITER),
+        Call::Complete => measured::complete(PAYLOAD_MOST, &mut out.word),
+        Call::Finish => measured::finish(PAYLOAD_MOST, &mut out.checks, DELIMITER, &mut out.tail),
+        Call::Pieces(size) => {
+            let mut answers = 0;
+            out.checks.fill(0);
+            each_piece(&sample.pieces, size, |held, count, bytes| {
+                answers += measured::piece(held, &mut out.checks, count, bytes);
+            });
+            answers + measured::finish(PAYLOAD_MOST, &mut out.checks, DELIMITER, &mut out.tail)
+        }
+    }
+}
+
+/// The same by the yardstick.
+fn call_rust(call: Call, sample: &Sample, out: &mut Written, code: &Code, columns: &Columns) -> u64 {
+    match call {
+        Call::Encode => {
+            let (answer, line) = code.encode(PAYLOAD_MOST, &sample.payload, DELIMITER, out.line.len());
+            out.line[..line.len()].copy_from_slice(&line);
+            answer.number()
+        }
+        Call::Word => code.check_word(PAYLOAD_MOST, &sample.word).number(),
+        Call::Line => code.check_line(PAYLOAD_MOST, &sample.line, DELIMITER).number(),
+        Call::Complete => stream::complete(code, PAYLOAD_MOST, &mut out.word).number(),
+        Call::Finish => {
+            let checks = std::mem::take(&mut out.checks);
+            finish_rust(Stream { held: PAYLOAD_MOST, checks }, out, code)
+        }
+        Call::Pieces(size) => {
+            let mut answers = 0;
+            let mut stream = Stream::fresh();
+            each_piece(&sample.pieces, size, |_, count, bytes| {
+                answers += stream.piece(columns, count, bytes).number();
+            });
+            answers + finish_rust(stream, out, code)
+        }
+    }
+}
+
+fn finish_rust(mut stream: Stream, out: &mut Written, code: &Code) -> u64 {
+    let (answer, tail) = stream.finish(code, DELIMITER, out.tail.len());
+    out.tail[..tail.len()].copy_from_slice(&tail);
+    out.checks = stream.checks;
+    answer.number()
+}
+
+impl Bench {
+    fn new(words: usize) -> Bench {
+        let code = Code::new();
+        let columns = Columns::new(&code);
+        let mut random = random::Random(142);
+        let mut samples = Vec::new();
+        for _ in 0..words {
+            let payload = random.bytes(bytes_for(PAYLOAD_MOST));
+            let word = code.full_word(PAYLOAD_MOST, &payload);
+            let line = line_word(PAYLOAD_MOST, &word, DELIMITER);
+            let mut stream = Stream::fresh();
+            stream.piece(&columns, PAYLOAD_MOST, &payload);
+            samples.push(Sample { payload, word, line, checks: stream.checks, pieces: Vec::new() });
+        }
+        // Other bytes than any call leaves, so that a byte that is not written is found.
+        let blank = |sample: &Sample| Written {
+            line: vec![165; sample.line.len()],
+            word: vec![165; sample.word.len()],
+            checks: vec![165; sample.checks.len()],
+            tail: vec![165; TAIL_BYTES],
+        };
+        let ours: Vec<Written> = samples.iter().map(blank).collect();
+        let rust = ours.clone();
+        Bench { code, columns, samples, ours, rust }
+    }
+
+    /// What is ready before a call: the pieces, and the inputs that it writes over.
+    fn prepare(&mut self, call: Call, words: usize) {
+        for n in 0..words {
+            let sample = &mut self.samples[n];
+            if let Call::Pieces(size) = call {
+                sample.pieces = cut(&sample.payload, size);
+            }
+            for out in [&mut self.ours[n], &mut self.rust[n]] {
+                out.checks.copy_from_slice(&sample.checks);
+                // The parity that stands in a word to be completed is not the right one.
+                out.word.copy_from_slice(&sample.word);
+                out.word[PAYLOAD_PLACES / 8..].fill(165);
+            }
+        }
+    }
+
+    fn run(&mut self, call: Call, engine: Engine, words: usize) -> u64 {
+        let mut answers = 0;
+        for n in 0..words {
+            let sample = &self.samples[n];
+            answers += match engine {
+                Engine::Ours => call_ours(call, sample, &mut self.ours[n]),
+                Engine::Rust => call_rust(call, sample, &mut self.rust[n], &self.code, &self.columns),
+            };
+        }
+        answers
+    }
+
+    /// How many words differ, in the answer or in a byte, or are not answered by 0.
+    fn compare(&mut self, call: Call, words: usize) -> usize {
+        self.prepare(call, words);
+        let (code, columns) = (&self.code, &self.columns);
+        let mut wrong = 0;
+        for n in 0..words {
+            let ours = call_ours(call, &self.samples[n], &mut self.ours[n]);
+            let rust = call_rust(call, &self.samples[n], &mut self.rust[n], code, columns);
+            let same = ours == rust && ours == 0 && self.ours[n] == self.rust[n];
+            wrong += usize::from(!same || !self.pieces_same(call, n));
+        }
+        wrong
+    }
+
+    /// Whether both answer each piece alike and leave the same running checks after it.
+    fn pieces_same(&self, call: Call, n: usize) -> bool {
+        let size = match call {
+            Call::Pieces(size) => size,
+            _ => return true,
+        };
+        let mut rust = Stream::fresh();
+        let mut ours = rust.checks.clone();
+        let mut same = true;
+        each_piece(&self.samples[n].pieces, size, |held, count, bytes| {
+            let answer = measured::piece(held, &mut ours, count, bytes);
+            same &= answer == rust.piece(&self.columns, count, bytes).number() && ours == rust.checks;
+        });
+        same
+    }
+
+    /// A mark is a yield: a system call, which the counter sees.
+    fn count(&mut self, call: Call, engine: Engine, words: usize) -> u64 {
+        self.prepare(call, words);
+        std::thread::yield_now();
+        let answers = self.run(call, engine, words);
+        std::thread::yield_now();
+        assert!(answers == 0, "a word was refused or not accepted");
+        0
+    }
+
+    fn time(&mut self, call: Call, engine: Engine, words: usize) -> u64 {
+        let mut spent = [0; RUNS];
+        for time in &mut spent {
+            self.prepare(call, words);
+            let start = Instant::now();
+            let answers = self.run(call, engine, words);
+            *time = start.elapsed().as_nanos() as u64 / words as u64;
+            assert!(answers == 0, "a word was refused or not accepted");
+        }
+        spent.sort();
+        spent[RUNS / 2]
+    }
 }
 
 fn main() {
-    let call = std::env::args().nth(1).unwrap_or_default();
-    let code = Code::new();
-    let mut random = random::Random(142);
-    let mut samples = Vec::new();
-    for _ in 0..WORDS {
-        let payload = random.bytes(bytes_for(PAYLOAD_MOST));
-        let word = code.full_word(PAYLOAD_MOST, &payload);
-        let line = line_word(PAYLOAD_MOST, &word, DELIMITER);
-        let output = line.clone();
-        samples.push(Sample { payload, word, line, output });
+    let mode = std::env::args().nth(1).unwrap_or_default();
+    let most = match mode.as_str() {
+        "compare" => FEW_WORDS,
+        "count" | "time" => WORDS,
+        _ => panic!("bench compare, count or time"),
+    };
+    let mut bench = Bench::new(most);
+    let (mut cases, mut wrong) = (0, 0);
+    for (name, call) in CALLS {
+        let words = words_of(call, most);
+        let differing = bench.compare(call, words);
+        if differing > 0 {
+            println!("wrong {}, {} of {} words", name, differing, words);
+        }
+        cases += words;
+        wrong += differing;
     }
-    for sample in &mut samples {
-        sample.output.fill(0);
+    if mode == "compare" || wrong > 0 {
+        println!("{} cases, {} wrong", cases, wrong);
+        std::process::exit(i32::from(wrong > 0));
     }
-
-    let start = std::time::Instant::now();
-    let mut answers = 0;
-    for sample in &mut samples {
-        answers |= match call.as_str() {
-            "none" => 0,
-            "encode" => archive::encode(PAYLOAD_MOST, &sample.payload, DELIMITER, &mut sample.output),
-            "word" => archive::check_word(PAYLOAD_MOST, &sample.word),
-            "line" => archive::check_line(PAYLOAD_MOST, &sample.line, DELIMITER),
-            _ => panic!("bench none, encode, word or line"),
-        };
+    for (name, call) in CALLS {
+        let words = words_of(call, most);
+        for (engine, whose) in [(Engine::Ours, "ours"), (Engine::Rust, "Rust")] {
+            let nanoseconds = match mode.as_str() {
+                "time" => bench.time(call, engine, words),
+                _ => bench.count(call, engine, words),
+            };
+            println!("{} {} {} {}", nanoseconds, words, whose, name);
+        }
     }
-    let spent = start.elapsed();
-    assert!(answers == 0, "a word was refused or not accepted");
-    println!("{}", spent.as_nanos() / WORDS as u128);
 }

@@ -6,6 +6,7 @@
 //!   bytes_for       the bytes that a run of b bits takes
 //!   line_bits       the bits of the line word of K payload bits
 //!   line_word       the line word of a full word and a delimiter
+//!   refusal_of_count, unused_set    what refusals 1, 10 and 3 ask
 //!   has_one         whether a check's row has a one at a place
 //!   Code            the places of each check, and the inverse of the parity part
 //!   Code::checks    all checks of a full word
@@ -97,7 +98,7 @@ pub fn line_word(k: usize, word: &[u8], delimiter: usize) -> Vec<u8> {
 }
 
 /// The number by which a payload count is refused, if it is.
-fn refusal_of_count(k: usize) -> Option<u64> {
+pub fn refusal_of_count(k: usize) -> Option<u64> {
     if k == 0 || k > PAYLOAD_MOST {
         return Some(1);
     }
@@ -107,7 +108,8 @@ fn refusal_of_count(k: usize) -> Option<u64> {
     None
 }
 
-fn unused_set(bytes: &[u8], bits: usize) -> bool {
+/// Whether a bit past the run of so many is 1.
+pub fn unused_set(bytes: &[u8], bits: usize) -> bool {
     (bits..bytes.len() * 8).any(|place| bit(bytes, place) == 1)
 }
 
@@ -149,7 +151,7 @@ fn inverse(rows: &[Set]) -> Option<Vec<Set>> {
 }
 
 pub struct Code {
-    places: Vec<Vec<usize>>,
+    pub places: Vec<Vec<usize>>,
     parity_from: Vec<Set>,
 }
 

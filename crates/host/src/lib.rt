@@ -9,7 +9,8 @@ use rules::Cause;
 use rules::Judgement;
 use rules::Verdict;
 
-fn answer_number(answer: Answer) -> u64
+// The number of an answer. The benchmark's calls, in `measured`, tell theirs by it too.
+pub fn answer_number(answer: Answer) -> u64
     ensures { λ r. ⌜ r ≡ number answer ⌝ }
 {
     match answer {

@@ -1,0 +1,79 @@
+// What the benchmark calls beyond the C boundary: complete, a stream's piece and its finish, with numbers and byte
+// slices only. These are no public operations: tests/bench alone calls them, and the archive of `host` does not have
+// them. Each function only calls the operation, and answers 0 or the refusal's number.
+// A stream is lent as the count of bits held and its running checks. These are 384 bytes; else the answer is 65,536, a
+// number that no refusal has, and nothing is written. Where a piece is taken, the caller adds its bits to those held.
+ghost use mathlib.Core.Path.{_≡_};
+ghost use lib.ListN.{length};
+ghost use Rattle.measured.specs.Measured.{lent, Complete, Piece, Finish};
+ghost use Rattle.rules.specs.Promises.{number};
+use rules::Step;
+use rules::Stream;
+
+// The answer where the running checks have not 384 bytes.
+const NO_CHECKS: u64 = 65536;
+
+// Writes the running checks of a step back, and tells its answer by number.
+fn hand_back(step: Step, checks: &mut [u8]) -> u64
+    requires { ⌜ length (now checks) ≡ 384 ⌝ }
+    ensures { λ r. ⌜ (r ≡ number (step .answer)) × (now (checks .exit) ≡ step .stream .checks) ⌝ }
+{
+    let stream = step.stream;
+    let next = stream.checks;
+    bits::copy(checks, &next);
+    let answer = step.answer;
+    host::answer_number(answer)
+}
+
+// The stream that is lent: these bits held, and these running checks.
+fn stream_of(held: usize, checks: &[u8]) -> Stream
+    requires { ⌜ length (now checks) ≡ 384 ⌝ }
+    ensures { λ r. ⌜ r ≡ lent held (now (checks .entry)) ⌝ }
+{
+    let mut held_checks = [0u8; 384];
+    bits::copy(&mut held_checks, checks);
+    Stream {
+        held: held,
+        checks: held_checks,
+    }
+}
+
+// Completes a full word.
+#[no_mangle]
+pub extern "C" fn measured_complete(count: usize, word: &mut [u8]) -> u64
+    ensures { λ r. ⌜ Complete count (now (word .entry)) r (now (word .exit)) ⌝ }
+{
+    host::answer_number(word::complete(count, word))
+}
+
+// Takes a piece.
+#[no_mangle]
+pub extern "C" fn measured_piece(held: usize, checks: &mut [u8], count: usize, bytes: &[u8]) -> u64
+    ensures { λ r. ⌜ Piece held count (now (bytes .entry)) (now (checks .entry)) r (now (checks .exit)) ⌝ }
+{
+    if checks.len() != 384 {
+        return NO_CHECKS;
+    }
+    let stream = stream_of(held, checks);
+    let step = stream::piece(stream, count, bytes);
+    hand_back(step, checks)
+}
+
+// Finishes.
+#[no_mangle]
+pub extern "C" fn measured_finish(
+    held: usize,
+    checks: &mut [u8],
+    delimiter: usize,
+    tail: &mut [u8],
+) -> u64
+    ensures { λ r.
+        ⌜ Finish held delimiter (now (checks .entry)) (now (tail .entry)) r (now (checks .exit)) (now (tail .exit)) ⌝ }
+{
+    if checks.len() != 384 {
+        return NO_CHECKS;
+    }
+    let stream = stream_of(held, checks);
+    let step = stream::finish(stream, delimiter, tail);
+    hand_back(step, checks)
+}
