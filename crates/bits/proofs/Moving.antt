@@ -2,11 +2,9 @@
 --
 --   at-place       a number read at byte and weight of place 64 k of a run that begins at p
 --   adds-number    m bits of such a number, added where 64 k bits of the run are added already
---   adds-single    a single bit added
-use mathlib.Core.Path.{_≡_, refl, sym, ap, _∙_}
+use mathlib.Core.Path.{_≡_, ap, _∙_}
 use mathlib.Core.List.{List}
-use Prim.Native.Nat.{ℕ, _+_, _-_, _*_, _/_, _%_, _≤_, _<_}
-use native.Mathlib.Nat.{div-one}
+use Prim.Native.Nat.{ℕ, _+_, _-_, _*_, _/_, _%_, _≤_}
 use native.Mathlib.Omega.{arith}
 use Rattle.rules.specs.Bits.{bit, placed}
 use Rattle.rules.specs.Words.{digit}
@@ -26,12 +24,3 @@ module _ {s t u : List ℕ} (f : ℕ → ℕ) (p k m : ℕ) {x : ℕ} where
       let place : 8 * (p / 8 + 8 * k) + p % 8 ≡ p + 64 * k = omega arith in
       adds-join p (64 * k) m f a
       (adds-as (λ n. placed-same (p + 64 * k) m _ _ (λ i l. h .each i (omega arith)) n) (rw place at b))
-
-pub adds-single : {s t : List ℕ} (p v : ℕ) → v < 2 → Adds s t (placed (8 * (p / 8) + p % 8) 1 (digit v))
-    → Adds s t (placed p 1 (λ i. v))
-adds-single p v less a =
-    let place : 8 * (p / 8) + p % 8 ≡ p = omega arith in
-    adds-as (λ n. placed-same p 1 _ _ first n) (rw place at a)
-  where
-    first : (i : ℕ) → i < 1 → digit v i ≡ v
-    first i l = let e : i ≡ 0 = omega arith in rw (e, div-one) (omega arith)

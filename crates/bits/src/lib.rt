@@ -26,14 +26,6 @@ pub fn bit_at(s: &[u8], place: usize) -> u8
     (s[place / 8] >> (place % 8)) % 2
 }
 
-// Adds a bit, mod 2, to the one at a place.
-pub fn add_bit(s: &mut [u8], place: usize, value: u8)
-    requires { ⌜ (place < 8 * length (now s)) × (value < 2) ⌝ }
-    ensures { λ r. ⌜ Adds (now (s .entry)) (now (s .exit)) (placed place 1 (λ t. value)) ⌝ }
-{
-    numbers::add_rest(s, place / 8, place % 8, value as u64, 1);
-}
-
 // Adds whole numbers of `from`, the bits from `start` on, to the bits of `s` from `at` on.
 fn add_numbers(s: &mut [u8], at: usize, from: &[u8], start: usize, whole: usize)
     requires { ⌜ (at + 64 * whole ≤ 8 * length (now s)) × (start + 64 * whole ≤ 8 * length (now from)) ⌝ }

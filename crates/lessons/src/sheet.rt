@@ -71,7 +71,7 @@ fn is_judged_refused(judgement: Judgement, number: usize) -> bool {
 // Sets the bit at a place that the bytes have.
 fn set(bytes: &mut [u8], place: usize) {
     if place / 8 < bytes.len() {
-        bits::add_bit(bytes, place, 1);
+        bits::add_run(bytes, place, b"\x01", 0, 1);
     }
 }
 

@@ -2,8 +2,11 @@
 --
 --   replaced-byte    a byte stored
 --   replaced-none    nothing stored
---   replaced-more    one more byte of a number stored
---   adds-store       a sum stored: the 64 bits after those that are added already
+--   replaced-as      by equal bits
+--   replaced-more    more bits stored, from the byte on where those before them end
+--   bytes-more       one more byte of a number stored, after j from byte i on
+--   halves-stored    both halves of a number stored
+--   adds-replaced    a sum stored is added
 --   adds-inside      a number added from a place inside a byte on: what leaves its eight bytes goes to a ninth
 --   rest-first       the first bits of a rest, up to the end of their byte
 --   rest-more        one more byte of a rest
@@ -16,97 +19,94 @@ use native.Mathlib.Omega.{arith}
 use lib.ListN.{length, set, length-set}
 use Rattle.rules.specs.Bits.{bit, zeros, run, placed, sum}
 use Rattle.rules.specs.Words.{digit}
-use Rattle.laws.proofs.Bits.{bit-set, bit-set-other}
+use Rattle.laws.proofs.Bits.{bit<, bit-set, bit-set-other}
 use Rattle.laws.proofs.Numbers.{digit-high, digit-right, digit-left, digit-low, digit-kept}
-use Rattle.laws.proofs.Runs.{run-low, run-high, placed-below, placed-in, placed-above, placed-none}
-use Rattle.laws.proofs.Runs.{placed-same, placed-join, placed-moved, placed-fewer}
+use Rattle.laws.proofs.Runs.{run-low, run-high, placed-each, placed-none}
+use Rattle.laws.proofs.Runs.{placed-same, placed-moved, placed-fewer}
 use Rattle.numbers.specs.Adds.{Adds}
 use Rattle.numbers.specs.Numbers.{Holds, Replaced}
-use Rattle.numbers.proofs.AddsLaws.{adds-none, adds-as, adds-join}
+use Rattle.numbers.proofs.AddsLaws.{adds-as, adds-join}
 
-pub replaced-byte : (s : List ℕ) (i x : ℕ) → i < length s → Replaced s (set s i (x % 2 ^ 8)) i 1 x
-replaced-byte s i x h = record {
-  length-same = length-set s i _;
-  below = λ k l. bit-set-other s i _ k (λ e. omega arith);
+pub replaced-byte : (s : List ℕ) (a i x : ℕ) → a + i < length s
+    → Replaced s (set s (a + i) (x / 2 ^ (8 * i) % 2 ^ 8)) (a + i) 8 (λ k. digit x (8 * i + k))
+replaced-byte s a i x h = record {
+  length-same = length-set s (a + i) _;
+  below = λ n l. bit-set-other s (a + i) _ n (λ e. omega arith);
   within = λ k l.
-      let q : (8 * i + k) % 8 ≡ k = omega arith in
-      bit-set s i _ (8 * i + k) h (omega arith) ∙ rw q (digit-low x 8 k l);
-  above = λ k l. bit-set-other s i _ k (λ e. omega arith);
+      let q : (8 * (a + i) + k) % 8 ≡ k = omega arith in
+      bit-set s (a + i) _ (8 * (a + i) + k) h (omega arith)
+      ∙ rw q (digit-low (x / 2 ^ (8 * i)) 8 k l ∙ digit-right x (8 * i) k ∙ ap (digit x) (omega arith));
+  above = λ n l. bit-set-other s (a + i) _ n (λ e. omega arith);
 }
 
-pub replaced-none : (s : List ℕ) (a x : ℕ) → Replaced s s a 0 x
-replaced-none s a x = record {
+pub replaced-none : (s : List ℕ) (a : ℕ) (f : ℕ → ℕ) → Replaced s s a 0 f
+replaced-none s a f = record {
   length-same = refl;
-  below = λ k l. refl;
+  below = λ n l. refl;
   within = λ k l. absurd (omega arith);
-  above = λ k l. refl;
+  above = λ n l. refl;
 }
 
-pub replaced-more : {s t u : List ℕ} {a n x : ℕ} → Replaced s t a n x → Replaced t u (a + n) 1 (x / 2 ^ (8 * n))
-    → Replaced s u a (n + 1) x
-replaced-more {s} {t} {u} {a} {n} {x} p q = record {
-  length-same = q .length-same ∙ p .length-same;
-  below = λ k l. q .below k (omega arith) ∙ p .below k l;
-  within = λ k l. elim (decLt k (8 * n)) [
-    | yes h ↦ q .below (8 * a + k) (omega arith) ∙ p .within k h
-    | no h ↦
-        let m = k - 8 * n in
-        let e : 8 * a + k ≡ 8 * (a + n) + m = omega arith in
-        let e′ : m + 8 * n ≡ k = omega arith in
-        ap (bit u) e ∙ q .within m (omega arith) ∙ digit-right x (8 * n) m ∙ ap (digit x) e′
-  ];
-  above = λ k l. q .above k (omega arith) ∙ p .above k (omega arith);
+pub replaced-as : {s t : List ℕ} {a b : ℕ} {f g : ℕ → ℕ} → ((k : ℕ) → k < b → f k ≡ g k) → Replaced s t a b f → Replaced s t a b g
+replaced-as e p = record {
+  length-same = p .length-same;
+  below = p .below;
+  within = λ k l. p .within k l ∙ e k l;
+  above = p .above;
 }
 
--- b bits of f are added from place h on, which end where byte a begins; x is the sum of s and f there
-module _ {s t u : List ℕ} (h b a : ℕ) (f : ℕ → ℕ) {x : ℕ} (ends : h + b ≡ 8 * a) (p : Adds s t (placed h b f))
-    (q : Replaced t u a 8 x) (w : Holds x (λ k. (bit s (8 * a + k) + f (b + k)) % 2)) where
-  before : (n : ℕ) → n < 8 * a → bit u n ≡ (bit s n + placed h (b + 64) f n) % 2
-  before n l =
-      q .below n l ∙ p .each n
-      ∙ rw (placed-join h b 64 f n, placed-below (h + b) 64 (λ k. f (b + k)) n (omega arith)) (omega arith)
-
-  here : (n : ℕ) → 8 * a ≤ n → n < 8 * a + 64 → bit u n ≡ (bit s n + placed h (b + 64) f n) % 2
-  here n l m =
-      let k = n - 8 * a in
-      let e : n ≡ 8 * a + k = omega arith in
-      let e′ : 8 * a + k ≡ n = omega arith in
-      let e″ : n - h ≡ b + k = omega arith in
-      ap (bit u) e ∙ q .within k (omega arith) ∙ w .each k (omega arith)
-      ∙ rw (placed-in h (b + 64) f n (omega arith) (omega arith), e′, e″)
-
-  after : (n : ℕ) → 8 * a + 64 ≤ n → bit u n ≡ (bit s n + placed h (b + 64) f n) % 2
-  after n l =
-      q .above n (omega arith) ∙ p .each n
-      ∙ rw (placed-above h (b + 64) f n (omega arith), placed-above h b f n (omega arith))
-
-  pub adds-store : Adds s u (placed h (b + 64) f)
-  adds-store = record {
+module _ {s t u : List ℕ} {a b : ℕ} {f : ℕ → ℕ} (p : Replaced s t a b f) (c m : ℕ) {g : ℕ → ℕ} (q : Replaced t u c m g) where
+  pub replaced-more : 8 * c ≡ 8 * a + b → ((k : ℕ) → g k ≡ f (b + k)) → Replaced s u a (b + m) f
+  replaced-more e same = record {
     length-same = q .length-same ∙ p .length-same;
-    each = λ n. elim (decLt n (8 * a)) [
-      | yes l ↦ before n l
-      | no l ↦ elim (decLt n (8 * a + 64)) [
-        | yes m ↦ here n (omega arith) m
-        | no m ↦ after n (omega arith)
-      ]
+    below = λ n l. q .below n (omega arith) ∙ p .below n l;
+    within = λ k l. elim (decLt k b) [
+      | yes h ↦ q .below (8 * a + k) (omega arith) ∙ p .within k h
+      | no h ↦
+          let place : 8 * a + k ≡ 8 * c + (k - b) = omega arith in
+          let all : b + (k - b) ≡ k = omega arith in
+          ap (bit u) place ∙ q .within (k - b) (omega arith) ∙ same (k - b) ∙ ap f all
     ];
+    above = λ n l. q .above n (omega arith) ∙ p .above n (omega arith);
   }
 
+pub bytes-more : {s t u : List ℕ} (a i j x : ℕ) → Replaced s t (a + i) (8 * j) (λ k. digit x (8 * i + k))
+    → Replaced t u (a + (i + j)) 8 (λ k. digit x (8 * (i + j) + k)) → Replaced s u (a + i) (8 * j + 8) (λ k. digit x (8 * i + k))
+bytes-more a i j x p q = replaced-more p (a + (i + j)) 8 q (omega arith) (λ k. ap (digit x) (omega arith))
+
+pub halves-stored : {s t u : List ℕ} (a x : ℕ) → Replaced s t (a + 0) 32 (λ k. digit x (0 + k))
+    → Replaced t u (a + 4) 32 (λ k. digit x (32 + k)) → Replaced s u a 64 (digit x)
+halves-stored {s} a x p q =
+    replaced-more
+    (replaced-more (replaced-none s a (digit x)) (a + 0) 32 p (omega arith) (λ k. refl)) (a + 4) 32 q (omega arith)
+    (λ k. refl)
+
+pub adds-replaced : {s t : List ℕ} (a b : ℕ) (f : ℕ → ℕ) {g : ℕ → ℕ} → Replaced s t a b g
+    → ((k : ℕ) → k < b → g k ≡ (bit s (8 * a + k) + f k) % 2) → Adds s t (placed (8 * a) b f)
+adds-replaced {s} {t} a b f p same = record {
+  length-same = p .length-same;
+  each = λ n.
+      placed-each (8 * a) b f n (λ v. bit t n ≡ (bit s n + v) % 2)
+      (λ l. p .below n l ∙ omega (arith, bit< s n))
+      (λ l h.
+      let e : 8 * a + (n - 8 * a) ≡ n = omega arith in
+      rw e at (p .within (n - 8 * a) (omega arith) ∙ same (n - 8 * a) (omega arith)))
+      (λ l. p .above n l ∙ omega (arith, bit< s n));
+}
+
 module _ (s : List ℕ) (i w x : ℕ) (less : w < 8) (small : x < 2 ^ 64) where
-  -- the first 64 - w digits, in the eight bytes
-  first : {t : List ℕ} {y : ℕ} → Replaced s t i 8 y
-      → Holds y (sum (λ k. bit s (8 * i + k)) (digit ((x * 2 ^ w) % 2 ^ 64)))
-      → Adds s t (placed (8 * i + w) (64 - w) (digit x))
+  -- what is stored in the eight bytes: the sum with x, moved up by w
+  abbrev Summed : ℕ → Type 0
+  Summed y = Holds y (sum (λ k. bit s (8 * i + k)) (digit ((x * 2 ^ w) % 2 ^ 64)))
+
+  -- it adds the first 64 - w digits
+  first : {t : List ℕ} {y : ℕ} → Replaced s t i 64 (digit y) → Summed y → Adds s t (placed (8 * i + w) (64 - w) (digit x))
   first q p =
       let all : w + (64 - w) ≡ 64 = omega arith in
       adds-as
       (λ n. rw (← placed-moved (8 * i) w (64 - w) (digit x) n, all)
       (placed-same (8 * i) 64 _ _ (λ k h. digit-left x w 64 k h) n))
-      (adds-store (8 * i) 0 i (digit ((x * 2 ^ w) % 2 ^ 64)) (omega arith) (adds-none s _ (placed-none (8 * i) _)) q
-      (record {
-        each = λ k h. p .each k h ∙ ap (λ (j : ℕ). (bit s (8 * i + k) + digit ((x * 2 ^ w) % 2 ^ 64) j) % 2)
-            (omega arith);
-      }))
+      (adds-replaced i 64 (digit ((x * 2 ^ w) % 2 ^ 64)) q (p .each))
 
   -- the others, in the ninth
   ninth : (n : ℕ) → placed (8 * (i + (w + 63) / 8)) 8 (digit (x / 2 ^ 1 / 2 ^ (63 - w))) n
@@ -128,8 +128,7 @@ module _ (s : List ℕ) (i w x : ℕ) (less : w < 8) (small : x < 2 ^ 64) where
       moved : (k : ℕ) → digit (x / 2 ^ 1 / 2 ^ (63 - w)) k ≡ digit x (64 - w + k)
       moved k = digit-right (x / 2 ^ 1) (63 - w) k ∙ digit-right x 1 (k + (63 - w)) ∙ ap (digit x) (omega arith)
 
-  pub adds-inside : {t u : List ℕ} {y : ℕ} → Replaced s t i 8 y
-      → Holds y (sum (λ k. bit s (8 * i + k)) (digit ((x * 2 ^ w) % 2 ^ 64)))
+  pub adds-inside : {t u : List ℕ} {y : ℕ} → Replaced s t i 64 (digit y) → Summed y
       → Adds t u (placed (8 * (i + (w + 63) / 8)) 8 (digit (x / 2 ^ 1 / 2 ^ (63 - w))))
       → Adds s u (placed (8 * i + w) 64 (digit x))
   adds-inside q p r =

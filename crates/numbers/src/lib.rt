@@ -89,24 +89,29 @@ pub fn rest_at(s: &[u8], byte: usize, weight: usize) -> u64
 // Makes byte i of `number` the byte i of s from `at` on.
 fn put_byte(s: &mut [u8], at: usize, i: usize, number: u64)
     requires { ⌜ (at + i < length (now s)) × (i < 8) ⌝ }
-    ensures { λ r. ⌜ Replaced (now (s .entry)) (now (s .exit)) (at + i) 1 (number / 2 ^ (8 * i)) ⌝ }
+    ensures { λ r. ⌜ Replaced (now (s .entry)) (now (s .exit)) (at + i) 8 (λ k. digit number (8 * i + k)) ⌝ }
 {
     s[at + i] = lowest(number >> (8 * i));
+}
+
+// The same of four bytes. They are spelt out, so that they compile to one store.
+fn put_four(s: &mut [u8], at: usize, i: usize, number: u64)
+    requires { ⌜ (at + i + 4 ≤ length (now s)) × (i ≤ 4) ⌝ }
+    ensures { λ r. ⌜ Replaced (now (s .entry)) (now (s .exit)) (at + i) 32 (λ k. digit number (8 * i + k)) ⌝ }
+{
+    put_byte(s, at, i, number);
+    put_byte(s, at, i + 1, number);
+    put_byte(s, at, i + 2, number);
+    put_byte(s, at, i + 3, number);
 }
 
 // Makes `number` the eight bytes of s from `at` on.
 pub fn store(s: &mut [u8], at: usize, number: u64)
     requires { ⌜ at + 8 ≤ length (now s) ⌝ }
-    ensures { λ r. ⌜ Replaced (now (s .entry)) (now (s .exit)) at 8 number ⌝ }
+    ensures { λ r. ⌜ Replaced (now (s .entry)) (now (s .exit)) at 64 (digit number) ⌝ }
 {
-    put_byte(s, at, 0, number);
-    put_byte(s, at, 1, number);
-    put_byte(s, at, 2, number);
-    put_byte(s, at, 3, number);
-    put_byte(s, at, 4, number);
-    put_byte(s, at, 5, number);
-    put_byte(s, at, 6, number);
-    put_byte(s, at, 7, number);
+    put_four(s, at, 0, number);
+    put_four(s, at, 4, number);
 }
 
 // Adds the lowest eight bits of a number to a byte.

@@ -1,20 +1,23 @@
 -- Laws of quarters: 64 bits of a block as one number.
 --
 --   quarter-turned    quarter j of a turned block is read across two of the block
---   adds-block        four sums stored, one after the other, add the block
-use mathlib.Core.Path.{_≡_, sym, ap, _∙_}
+--   block-summed      the quarters of sums, with those of a block added
+--   block-stored      four quarters stored, one after the other
+use mathlib.Core.Path.{_≡_, refl, sym, ap, _∙_}
 use mathlib.Core.List.{List}
 use Prim.Native.Nat.{ℕ, _+_, _-_, _*_, _/_, _%_}
 use native.Mathlib.Omega.{arith}
+use lib.Bits.{bitXor}
 use lib.ListN.{drop}
-use Rattle.rules.specs.Bits.{bit, run, placed}
+use Rattle.rules.specs.Bits.{bit, run}
 use Rattle.rules.specs.Words.{digit}
 use Rattle.laws.proofs.Bits.{bit-drop}
-use Rattle.laws.proofs.Runs.{run-each, placed-none}
-use Rattle.numbers.specs.Adds.{Adds}
+use Rattle.laws.proofs.Runs.{run-each}
 use Rattle.numbers.specs.Numbers.{Holds, Replaced}
-use Rattle.numbers.proofs.AddsLaws.{adds-none}
-use Rattle.numbers.proofs.Storing.{adds-store}
+use Rattle.numbers.proofs.Reading.{number-sum}
+use Rattle.numbers.proofs.Storing.{replaced-none, replaced-as, replaced-more}
+use Rattle.turning.specs.declared.Block.{Block}
+use Rattle.turning.specs.Quarters.{HoldsAll}
 use Rattle.turning.specs.Turning.{turned}
 
 module _ (b : List ℕ) (f a j : ℕ) {low high : ℕ}
@@ -35,17 +38,38 @@ module _ (b : List ℕ) (f a j : ℕ) {low high : ℕ}
         (λ l. q .each (n - 64) (omega arith) ∙ at-block _ (omega arith));
   }
 
--- x is 64 of the sums s, from byte a on, with the bits of f from b on added
-abbrev pub Summed : List ℕ → ℕ → ℕ → (ℕ → ℕ) → ℕ → Type 0
-Summed s a b f x = Holds x (λ k. (bit s (8 * a + k) + f (b + k)) % 2)
+-- a quarter of sums, with one of a block added
+quarter-sum : (s : List ℕ) (a b c : ℕ) (g : ℕ → ℕ) {x y : ℕ} → 8 * c ≡ 8 * a + b → Holds x (λ k. bit s (8 * c + k))
+    → Holds y (λ k. g (b + k)) → Holds (bitXor x y) (λ k. (bit s (8 * a + (b + k)) + g (b + k)) % 2)
+quarter-sum s a b c g e p q =
+    number-sum record { each = λ k h. p .each k h ∙ ap (bit s) (omega arith) } q
 
-module _ {s t u v w : List ℕ} (a : ℕ) (f : ℕ → ℕ) {x₀ x₁ x₂ x₃ : ℕ} where
-  pub adds-block : Replaced s t a 8 x₀ → Summed s a 0 f x₀ → Replaced t u (a + 8) 8 x₁ → Summed s (a + 8) 64 f x₁
-      → Replaced u v (a + 16) 8 x₂ → Summed s (a + 16) 128 f x₂ → Replaced v w (a + 24) 8 x₃
-      → Summed s (a + 24) 192 f x₃
-      → Adds s w (placed (8 * a) 256 f)
-  adds-block r₀ h₀ r₁ h₁ r₂ h₂ r₃ h₃ =
-      adds-store (8 * a) 192 (a + 24) f (omega arith)
-      (adds-store (8 * a) 128 (a + 16) f (omega arith)
-      (adds-store (8 * a) 64 (a + 8) f (omega arith)
-      (adds-store (8 * a) 0 a f (omega arith) (adds-none s _ (placed-none (8 * a) f)) r₀ h₀) r₁ h₁) r₂ h₂) r₃ h₃
+-- one more quarter stored
+quarter-stored : {s t u : List ℕ} {a b : ℕ} {f : ℕ → ℕ} {x : ℕ} → Replaced s t a b f → (c : ℕ) → Replaced t u c 64 (digit x)
+    → 8 * c ≡ 8 * a + b → Holds x (λ k. f (b + k)) → Replaced s u a (b + 64) f
+quarter-stored p c q e h = replaced-more p c 64 (replaced-as (h .each) q) e (λ k. refl)
+
+module _ (s : List ℕ) (a : ℕ) (g : ℕ → ℕ) {x₀ x₁ x₂ x₃ y₀ y₁ y₂ y₃ : ℕ} where
+  pub block-summed : Holds x₀ (λ k. bit s (8 * a + k)) → Holds y₀ (λ k. g (0 + k))
+      → Holds x₁ (λ k. bit s (8 * (a + 8) + k)) → Holds y₁ (λ k. g (64 + k))
+      → Holds x₂ (λ k. bit s (8 * (a + 16) + k)) → Holds y₂ (λ k. g (128 + k))
+      → Holds x₃ (λ k. bit s (8 * (a + 24) + k)) → Holds y₃ (λ k. g (192 + k))
+      → HoldsAll record { first = bitXor x₀ y₀; second = bitXor x₁ y₁; third = bitXor x₂ y₂; fourth = bitXor x₃ y₃ }
+      (λ n. (bit s (8 * a + n) + g n) % 2)
+  block-summed p₀ q₀ p₁ q₁ p₂ q₂ p₃ q₃ = record {
+    first = quarter-sum s a 0 a g (omega arith) p₀ q₀;
+    second = quarter-sum s a 64 (a + 8) g (omega arith) p₁ q₁;
+    third = quarter-sum s a 128 (a + 16) g (omega arith) p₂ q₂;
+    fourth = quarter-sum s a 192 (a + 24) g (omega arith) p₃ q₃;
+  }
+
+module _ {s t u v w : List ℕ} (a : ℕ) (q : Block) where
+  pub block-stored : Replaced s t a 64 (digit (q .first)) → Replaced t u (a + 8) 64 (digit (q .second))
+      → Replaced u v (a + 16) 64 (digit (q .third)) → Replaced v w (a + 24) 64 (digit (q .fourth))
+      → (f : ℕ → ℕ) → HoldsAll q f → Replaced s w a 256 f
+  block-stored r₀ r₁ r₂ r₃ f h =
+      quarter-stored
+      (quarter-stored
+      (quarter-stored
+      (quarter-stored (replaced-none s a f) a r₀ (omega arith) (h .first)) (a + 8) r₁ (omega arith) (h .second)) (a + 16) r₂
+      (omega arith) (h .third)) (a + 24) r₃ (omega arith) (h .fourth)

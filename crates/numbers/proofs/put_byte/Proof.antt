@@ -1,6 +1,5 @@
 -- `numbers::put_byte` meets its contract: one byte is stored.
 use borrow.Author.Needs.{needs}
-use Prim.Native.Nat.{_+_, _*_, _/_, _^_}
 use Rattle.numbers.proofs.Storing.{replaced-byte}
 use Rattle.numbers.proofs.put_byte.Statement.{statement}
 use Rattle.numbers.proofs.put_byte.Tie as tie
@@ -26,8 +25,7 @@ same-length c = search needs
 returns : tie.Need-returns
 returns c =
     let a = c .before .before .args in
-    rw (c .lowest .ensures) (replaced-byte (a .s .now) (a .at + a .i) (a .number / 2 ^ (8 * a .i))
-    (c .before .before .pre .0))
+    rw (c .lowest .ensures) (replaced-byte (a .s .now) (a .at) (a .i) (a .number) (c .before .before .pre .0))
 
 pub put-byte-spec : {M : Type 1} → statement M
 put-byte-spec =
