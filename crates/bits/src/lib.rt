@@ -26,19 +26,6 @@ pub fn bit_at(s: &[u8], place: usize) -> u8
     (s[place / 8] >> (place % 8)) % 2
 }
 
-// Adds whole numbers of `from`, the bits from `start` on, to the bits of `s` from `at` on.
-fn add_numbers(s: &mut [u8], at: usize, from: &[u8], start: usize, whole: usize)
-    requires { ⌜ (at + 64 * whole ≤ 8 * length (now s)) × (start + 64 * whole ≤ 8 * length (now from)) ⌝ }
-    ensures { λ r. ⌜
-        Adds (now (s .entry)) (now (s .exit)) (placed at (64 * whole) (λ t. bit (now (from .entry)) (start + t)))
-        ⌝ }
-{
-    for k in 0..whole {
-        let number = numbers::number_at(from, start / 8 + 8 * k, start % 8);
-        numbers::add_number(s, at / 8 + 8 * k, at % 8, number);
-    }
-}
-
 // Adds `count` bits of `from`, those from `start` on, to the bits of `s` from `at` on. Both places may be inside a byte.
 pub fn add_run(s: &mut [u8], at: usize, from: &[u8], start: usize, count: usize)
     requires { ⌜ (at + count ≤ 8 * length (now s)) × (start + count ≤ 8 * length (now from)) ⌝ }
@@ -47,7 +34,10 @@ pub fn add_run(s: &mut [u8], at: usize, from: &[u8], start: usize, count: usize)
         ⌝ }
 {
     let whole = count / 64;
-    add_numbers(s, at, from, start, whole);
+    for k in 0..whole {
+        let number = numbers::number_at(from, start / 8 + 8 * k, start % 8);
+        numbers::add_number(s, at / 8 + 8 * k, at % 8, number);
+    }
     let left = count % 64;
     if left == 0 {
         return;

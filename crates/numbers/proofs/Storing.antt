@@ -47,7 +47,8 @@ replaced-none s a f = record {
   above = λ n l. refl;
 }
 
-pub replaced-as : {s t : List ℕ} {a b : ℕ} {f g : ℕ → ℕ} → ((k : ℕ) → k < b → f k ≡ g k) → Replaced s t a b f → Replaced s t a b g
+pub replaced-as : {s t : List ℕ} {a b : ℕ} {f g : ℕ → ℕ} → ((k : ℕ) → k < b → f k ≡ g k) → Replaced s t a b f
+    → Replaced s t a b g
 replaced-as e p = record {
   length-same = p .length-same;
   below = p .below;
@@ -55,7 +56,8 @@ replaced-as e p = record {
   above = p .above;
 }
 
-module _ {s t u : List ℕ} {a b : ℕ} {f : ℕ → ℕ} (p : Replaced s t a b f) (c m : ℕ) {g : ℕ → ℕ} (q : Replaced t u c m g) where
+module _ {s t u : List ℕ} {a b : ℕ} {f : ℕ → ℕ} (p : Replaced s t a b f) (c m : ℕ) {g : ℕ → ℕ}
+    (q : Replaced t u c m g) where
   pub replaced-more : 8 * c ≡ 8 * a + b → ((k : ℕ) → g k ≡ f (b + k)) → Replaced s u a (b + m) f
   replaced-more e same = record {
     length-same = q .length-same ∙ p .length-same;
@@ -71,7 +73,8 @@ module _ {s t u : List ℕ} {a b : ℕ} {f : ℕ → ℕ} (p : Replaced s t a b 
   }
 
 pub bytes-more : {s t u : List ℕ} (a i j x : ℕ) → Replaced s t (a + i) (8 * j) (λ k. digit x (8 * i + k))
-    → Replaced t u (a + (i + j)) 8 (λ k. digit x (8 * (i + j) + k)) → Replaced s u (a + i) (8 * j + 8) (λ k. digit x (8 * i + k))
+    → Replaced t u (a + (i + j)) 8 (λ k. digit x (8 * (i + j) + k)) → Replaced s u (a + i) (8 * j + 8)
+    (λ k. digit x (8 * i + k))
 bytes-more a i j x p q = replaced-more p (a + (i + j)) 8 q (omega arith) (λ k. ap (digit x) (omega arith))
 
 pub halves-stored : {s t u : List ℕ} (a x : ℕ) → Replaced s t (a + 0) 32 (λ k. digit x (0 + k))
@@ -100,7 +103,8 @@ module _ (s : List ℕ) (i w x : ℕ) (less : w < 8) (small : x < 2 ^ 64) where
   Summed y = Holds y (sum (λ k. bit s (8 * i + k)) (digit ((x * 2 ^ w) % 2 ^ 64)))
 
   -- it adds the first 64 - w digits
-  first : {t : List ℕ} {y : ℕ} → Replaced s t i 64 (digit y) → Summed y → Adds s t (placed (8 * i + w) (64 - w) (digit x))
+  first : {t : List ℕ} {y : ℕ} → Replaced s t i 64 (digit y) → Summed y
+      → Adds s t (placed (8 * i + w) (64 - w) (digit x))
   first q p =
       let all : w + (64 - w) ≡ 64 = omega arith in
       adds-as

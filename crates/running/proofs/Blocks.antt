@@ -23,7 +23,8 @@ use Rattle.rules.specs.Terms.{spot, term}
 use Rattle.rules.specs.Streams.{Added}
 use Rattle.rules.proofs.Checks.{block-of, local-of}
 use Rattle.laws.proofs.Bits.{bit<, bit-zeros}
-use Rattle.laws.proofs.Runs.{run-low, run-none, run-same, run-join, placed-below, placed-above, placed-each, placed-bits}
+use Rattle.laws.proofs.Runs.{run-low, run-none, run-same, run-join, placed-below, placed-above}
+use Rattle.laws.proofs.Runs.{placed-each, placed-bits}
 use Rattle.laws.proofs.Runs.{placed-none, placed-same, placed-whole}
 use Rattle.laws.proofs.Columns.{check-column}
 use Rattle.laws.proofs.Running.{added-none, added-as, added-join}

@@ -28,7 +28,9 @@ fn add_entry(checks: &mut [u8], word: &[u8], i: usize, j: usize, a: i16)
 
 // Adds block j of the word, by the entries of its line.
 fn add_block(checks: &mut [u8], word: &[u8], j: usize, line: &[i16])
-    requires { ⌜ (length (now checks) ≡ 384) × (32 * j + 32 ≤ length (now word)) × (j < 69) × (now line ≡ getD lines j []) ⌝ }
+    requires { ⌜
+        (length (now checks) ≡ 384) × (32 * j + 32 ≤ length (now word)) × (j < 69) × (now line ≡ getD lines j [])
+        ⌝ }
     ensures { λ r. ⌜ Added (blocks (now (word .entry)) j (j + 1)) (now (checks .entry)) (now (checks .exit)) ⌝ }
 {
     for i in 0..line.len() {

@@ -45,7 +45,8 @@ quarter-sum s a b c g e p q =
     number-sum record { each = λ k h. p .each k h ∙ ap (bit s) (omega arith) } q
 
 -- one more quarter stored
-quarter-stored : {s t u : List ℕ} {a b : ℕ} {f : ℕ → ℕ} {x : ℕ} → Replaced s t a b f → (c : ℕ) → Replaced t u c 64 (digit x)
+quarter-stored : {s t u : List ℕ} {a b : ℕ} {f : ℕ → ℕ} {x : ℕ} → Replaced s t a b f → (c : ℕ)
+    → Replaced t u c 64 (digit x)
     → 8 * c ≡ 8 * a + b → Holds x (λ k. f (b + k)) → Replaced s u a (b + 64) f
 quarter-stored p c q e h = replaced-more p c 64 (replaced-as (h .each) q) e (λ k. refl)
 
@@ -71,5 +72,6 @@ module _ {s t u v w : List ℕ} (a : ℕ) (q : Block) where
       quarter-stored
       (quarter-stored
       (quarter-stored
-      (quarter-stored (replaced-none s a f) a r₀ (omega arith) (h .first)) (a + 8) r₁ (omega arith) (h .second)) (a + 16) r₂
+      (quarter-stored (replaced-none s a f) a r₀ (omega arith) (h .first)) (a + 8) r₁ (omega arith) (h .second))
+      (a + 16) r₂
       (omega arith) (h .third)) (a + 24) r₃ (omega arith) (h .fourth)

@@ -33,7 +33,8 @@ fn quarter_at(s: &[u8], from: usize, turn: usize, index: usize) -> u64
 fn sums_at(sums: &[u8], at: usize, block: &[u8], from: usize, turn: usize) -> Block
     requires { ⌜ (at + 32 ≤ length (now sums)) × (from + 32 ≤ length (now block)) × (turn < 256) ⌝ }
     ensures { λ r. ⌜
-        HoldsAll r (λ n. (bit (now (sums .entry)) (8 * at + n) + turned 256 (drop from (now (block .entry))) turn n) % 2)
+        HoldsAll r (λ n.
+        (bit (now (sums .entry)) (8 * at + n) + turned 256 (drop from (now (block .entry))) turn n) % 2)
         ⌝ }
 {
     Block {

@@ -1,61 +1,123 @@
--- `bits::add_run` meets its contract: whole numbers, and what is left.
+-- `bits::add_run` meets its contract. The invariant: the first k numbers are added.
 use borrow.Author.Needs.{needs}
 use mathlib.Core.Path.{_≡_}
-use Prim.Native.Nat.{_+_, _*_, _/_, _%_}
+use Prim.Native.Nat.{ℕ, _+_, _-_, _*_, _/_, _%_, _≤_}
 use native.Mathlib.Omega.{arith}
+use Rattle.rules.specs.Bits.{bit, placed}
+use Rattle.laws.proofs.Runs.{placed-none}
+use Rattle.numbers.specs.Adds.{Adds}
+use Rattle.numbers.proofs.AddsLaws.{adds-none}
 use Rattle.bits.proofs.Moving.{at-place, adds-number}
 use Rattle.bits.proofs.add_run.Statement.{statement}
 use Rattle.bits.proofs.add_run.Tie as tie
 
-add-numbers-requires : tie.Need-add-numbers-requires
-add-numbers-requires c κs = search needs
+abbrev Inv-loop : tie.InvT-loop
+Inv-loop s₀ at from start count whole k₀ s k =
+    (k ≤ whole) × (whole ≡ count / 64) × Adds s₀ s (placed at (64 * k) (λ t. bit from (start + t)))
 
-same-length : tie.Need-same-length
+abbrev μ-loop : tie.MeasureT-loop
+μ-loop s₀ at from start count whole k₀ s k = whole - k
+
+loop-holds : tie.Need-loop-holds Inv-loop μ-loop
+loop-holds c = (search needs, search needs, adds-none _ _ (placed-none _ _))
+
+mul-number-at : tie.Need-mul-number-at Inv-loop μ-loop
+mul-number-at c = search needs
+
+add-number-at : tie.Need-add-number-at Inv-loop μ-loop
+add-number-at c = search needs
+
+number-at-requires : tie.Need-number-at-requires Inv-loop μ-loop
+number-at-requires c κs = search needs
+
+mul-add-number : tie.Need-mul-add-number Inv-loop μ-loop
+mul-add-number c = search needs
+
+add-add-number : tie.Need-add-add-number Inv-loop μ-loop
+add-add-number c = search needs
+
+add-number-requires : tie.Need-add-number-requires Inv-loop μ-loop
+add-number-requires c κs = search needs
+
+add-k : tie.Need-add-k Inv-loop μ-loop
+add-k c = search needs
+
+loop-less : tie.Need-loop-less Inv-loop μ-loop
+loop-less c = search needs
+
+loop-again : tie.Need-loop-again Inv-loop μ-loop
+loop-again c =
+    let read = c .before .before .before .before in
+    let l = read .before .before in
+    let a = l .before .before .before .args in
+    let k = l .loop .k in
+    let next : 64 * k + 64 ≡ 64 * (k + 1) = omega arith in
+    let here = at-place (a .from .now) (a .start) k (read .number-at .ensures) in (
+      search needs,
+      search needs,
+      rw next at
+          (adds-number _ (a .at) k 64 (omega arith) (l .loop .inv .2) here (c .before .before .add-number .ensures)),
+    )
+
+same-length : tie.Need-same-length Inv-loop μ-loop
 same-length c = search needs
 
-returns : tie.Need-returns
+returns : tie.Need-returns Inv-loop μ-loop
 returns c =
-    let a = c .before .before .before .before .before .before .before .args in
-    let e : 64 * (a .count / 64) ≡ a .count = omega arith in
-    rw e at (c .before .before .before .add-numbers .ensures)
+    let l = c .before .before in
+    let e : 64 * l .loop .k ≡ l .before .before .before .args .count = omega arith in
+    rw e at (l .loop .inv .2)
 
-mul-rest-at : tie.Need-mul-rest-at
+mul-rest-at : tie.Need-mul-rest-at Inv-loop μ-loop
 mul-rest-at c = search needs
 
-add-rest-at : tie.Need-add-rest-at
+add-rest-at : tie.Need-add-rest-at Inv-loop μ-loop
 add-rest-at c = search needs
 
-rest-at-requires : tie.Need-rest-at-requires
+rest-at-requires : tie.Need-rest-at-requires Inv-loop μ-loop
 rest-at-requires c κs = search needs
 
-mul-add-rest : tie.Need-mul-add-rest
+mul-add-rest : tie.Need-mul-add-rest Inv-loop μ-loop
 mul-add-rest c = search needs
 
-add-add-rest : tie.Need-add-add-rest
+add-add-rest : tie.Need-add-add-rest Inv-loop μ-loop
 add-add-rest c = search needs
 
-add-rest-requires : tie.Need-add-rest-requires
+add-rest-requires : tie.Need-add-rest-requires Inv-loop μ-loop
 add-rest-requires c κs = search needs
 
-same-length-2 : tie.Need-same-length-2
+same-length-2 : tie.Need-same-length-2 Inv-loop μ-loop
 same-length-2 c = search needs
 
-returns-2 : tie.Need-returns-2
+returns-2 : tie.Need-returns-2 Inv-loop μ-loop
 returns-2 c =
     let read = c .before .before .before .before in
-    let done = read .before .before .before .before in
-    let a = done .before .before .before .before .args in
-    let e : 64 * (a .count / 64) + a .count % 64 ≡ a .count = omega arith in
-    let here = at-place (a .from .now) (a .start) (a .count / 64) (read .rest-at .ensures) in
-    rw e at
-    (adds-number _ (a .at) (a .count / 64) (a .count % 64) (omega arith) (done .add-numbers .ensures) here
+    let l = read .before .before .before in
+    let a = l .before .before .before .args in
+    let whole = a .count / 64 in
+    let passed : l .loop .k ≡ whole = omega arith in
+    let all : 64 * whole + a .count % 64 ≡ a .count = omega arith in
+    let here = at-place (a .from .now) (a .start) whole (read .rest-at .ensures) in
+    rw all at
+    (adds-number _ (a .at) whole (a .count % 64) (omega arith) (rw passed at (l .loop .inv .2)) here
     (c .before .before .add-rest .ensures))
 
 pub add-run-spec : {M : Type 1} → statement M
 add-run-spec =
     tie.close
     (tie.spec
-    add-numbers-requires
+    Inv-loop
+    μ-loop
+    loop-holds
+    mul-number-at
+    add-number-at
+    number-at-requires
+    mul-add-number
+    add-add-number
+    add-number-requires
+    add-k
+    loop-less
+    loop-again
     same-length
     returns
     mul-rest-at

@@ -29,7 +29,7 @@ same-length : tie.Need-same-length
 same-length c = search needs
 
 returns : tie.Need-returns
-returns c = 
+returns c =
     let b3 = c .before .before in
     let b2 = b3 .before .before .before .before in
     let b1 = b2 .before .before .before .before in

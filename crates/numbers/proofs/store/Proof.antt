@@ -14,7 +14,7 @@ same-length : tie.Need-same-length
 same-length c = search needs
 
 returns : tie.Need-returns
-returns c = 
+returns c =
     let high = c .before .before in
     let low = high .before .before .before .before in
     let a = low .before .before .before .args in

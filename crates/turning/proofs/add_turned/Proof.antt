@@ -18,7 +18,7 @@ same-length : tie.Need-same-length
 same-length c = search needs
 
 returns : tie.Need-returns
-returns c = 
+returns c =
     let put = c .before .before in
     adds-as (run-none zeros _)
     (adds-replaced 0 256 _ (put .store .ensures _ (put .before .before .sums-at .ensures)) (λ k l. refl))

@@ -29,13 +29,14 @@ same-length : tie.Need-same-length
 same-length c = search needs
 
 returns : tie.Need-returns
-returns c = 
+returns c =
     let b3 = c .before .before in
     let b2 = b3 .before .before .before .before in
     let b1 = b2 .before .before .before .before in
     let b0 = b1 .before .before .before .before in
     let a = b0 .before .before .before .args in
-    block-stored (a .at) (a .block) (b0 .store .ensures) (b1 .store2 .ensures) (b2 .store3 .ensures) (b3 .store4 .ensures)
+    block-stored (a .at) (a .block) (b0 .store .ensures) (b1 .store2 .ensures) (b2 .store3 .ensures)
+    (b3 .store4 .ensures)
 
 pub store-spec : {M : Type 1} → statement M
 store-spec =

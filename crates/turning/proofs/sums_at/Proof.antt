@@ -38,7 +38,7 @@ quarter-at-requires-4 : tie.Need-quarter-at-requires-4
 quarter-at-requires-4 c κs = search needs
 
 returns : tie.Need-returns
-returns c = 
+returns c =
     let b3 = c .before in
     let b2 = b3 .before .before in
     let b1 = b2 .before .before in
