@@ -14,7 +14,7 @@
 --   bit-below, bit-above      and those of s below and above
 --   mid-rest                  where all from a on is replaced
 --   bit-zeros                 a bit of zero bytes
---   bit-cleared, bit-kept     a bit of s with its first k bytes cleared: one of these, and another
+--   bit-cleared               a bit of s with its first k bytes cleared, of one of these
 --   numbers-same              numbers below 2 to the power n with the same n bits are equal
 --   bits-same                 lists of bytes of one length with the same bits are equal
 --   pack n f                  n bytes that hold the bits of f
@@ -136,14 +136,8 @@ bit-zeros k n = elim (decLt (n / 8) k) [
   | no h ↦ bit-past (replicate k 0) n (omega (arith, length-replicate {A = ℕ} k 0))
 ]
 
-module _ (s : List ℕ) (k n : ℕ) where
-  pub bit-cleared : n < 8 * k → bit (replicate k 0 ++ drop k s) n ≡ 0
-  bit-cleared h = bit-front (replicate k 0) (drop k s) n (omega (arith, length-replicate {A = ℕ} k 0)) ∙ bit-zeros k n
-
-  pub bit-kept : 8 * k ≤ n → bit (replicate k 0 ++ drop k s) n ≡ bit s n
-  bit-kept h =
-      let e : n ≡ 8 * k + (n - 8 * k) = omega arith in
-      rw e (bit-back (replicate k 0) (drop k s) k (n - 8 * k) (length-replicate {A = ℕ} k 0) ∙ bit-drop s k (n - 8 * k))
+pub bit-cleared : (s : List ℕ) (k n : ℕ) → n < 8 * k → bit (replicate k 0 ++ drop k s) n ≡ 0
+bit-cleared s k n h = bit-front (replicate k 0) (drop k s) n (omega (arith, length-replicate {A = ℕ} k 0)) ∙ bit-zeros k n
 
 halved : (x t : ℕ) → x / 2 ^ suc t ≡ x / 2 / 2 ^ t
 halved x t = let e : suc t ≡ 1 + t = omega arith in rw e (sym (shr-shr x 1 t))

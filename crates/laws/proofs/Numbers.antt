@@ -7,7 +7,6 @@
 --   digit-left-2    two shifts to the left are one by their sum
 --   digit-low       a number's n lowest digits are kept by mod 2 to the power n
 --   digit-kept      the n lowest digits, and no other
---   digit-moved     a shift to the left, with all its digits
 --   digit-joined    a number of b bits, and m bits that another has at the places from b on, joined by an or
 --   digit-across    the n digits from t on of two numbers of n digits, one after the other; the second moves by 1, then by n - 1 - t
 --   ones-digits     the ones of a number of n bits are its n digits added up
@@ -52,7 +51,8 @@ digit-kept x n k =
 shifted-twice : (x i j : ℕ) → x * 2 ^ (i + j) ≡ x * 2 ^ i * 2 ^ j
 shifted-twice x i j = rw pow-add (sym (mul-assoc x (2 ^ i) (2 ^ j)))
 
-pub digit-moved : (x s k : ℕ) → digit (x * 2 ^ s) k ≡ run s zeros (digit x) k
+-- the digits of a shift to the left, all of them
+digit-moved : (x s k : ℕ) → digit (x * 2 ^ s) k ≡ run s zeros (digit x) k
 digit-moved x s k = elim (decLt k s) [
   | yes h ↦
       let e : s ≡ (s - k - 1 + 1) + k = omega arith in

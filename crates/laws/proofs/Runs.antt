@@ -8,7 +8,6 @@
 --   run-sum                      a run of sums is the sum of the runs
 --   run-run                      zeros after zeros
 --   run-join, placed-join        m more bits
---   placed-more                  one more bit
 --   placed-below, placed-above   the places before and after b bits of x placed at h are 0
 --   placed-in                    the places between are those of x
 --   placed-each                  what holds in all three cases, holds of the placed run
@@ -126,12 +125,3 @@ placed-fewer h b c x l none n =
     (λ k. placed-below h b x n k)
     (λ k m. placed-in h b x n k (omega arith))
     (λ k. placed-each h b x n (λ v. v ≡ 0) (λ q. refl) (λ q r. none (n - h) (omega arith)) (λ q. refl))
-
--- a single bit that stands for the first of x
-single : (h : ℕ) (x : ℕ → ℕ) (v : ℕ) → x 0 ≡ v → (n : ℕ) → placed h 1 x n ≡ placed h 1 (λ t. v) n
-single h x v e = placed-same h 1 x (λ t. v) (λ t l. let z : t ≡ 0 = omega arith in rw z e)
-
-pub placed-more : (h b : ℕ) (x : ℕ → ℕ) (n : ℕ) → placed h (b + 1) x n ≡ placed h b x n + placed (h + b) 1 (λ t. x b) n
-placed-more h b x n =
-    placed-join h b 1 x n
-    ∙ ap (λ (v : ℕ). placed h b x n + v) (single (h + b) (λ t. x (b + t)) (x b) (ap x (omega arith)) n)

@@ -3,7 +3,6 @@
 --   adds-none      what is 0 everywhere adds nothing
 --   adds-then      one after the other
 --   adds-as        by an equal function
---   adds-more      one more summand of a sum of functions
 --   adds-join      m more bits of a placed run
 --   added s i x    s after an exclusive or of its byte i with the lowest eight bits of the number x
 --   adds-byte      which adds these bits to those of the byte
@@ -11,13 +10,11 @@
 use mathlib.Core.Path.{_≡_, refl, sym, ap, _∙_}
 use mathlib.Core.List.{List}
 use Prim.Native.Nat.{ℕ, _+_, _-_, _*_, _/_, _%_, _^_, _≤_, _<_}
-use native.Mathlib.Numerals.{add-one}
 use native.Mathlib.Decide.{ℕ-discrete}
 use native.Mathlib.Omega.{arith}
 use lib.Bits.{bitXor}
 use lib.ListN.{length, getD, set, take, drop, length-set, length-take, length-drop}
 use Rattle.rules.specs.Bits.{bit, placed}
-use Rattle.rules.specs.Matrix.{total}
 use Rattle.rules.specs.Words.{digit}
 use Rattle.laws.proofs.Bits.{bit<, bit-xor, bit-set, bit-set-other, bit-part, mid, length-mid, bit-mid, bit-below, bit-above}
 use Rattle.laws.proofs.Numbers.{digit-low}
@@ -33,15 +30,9 @@ adds-then p q = record { length-same = q .length-same ∙ p .length-same; each =
 pub adds-as : {s t : List ℕ} {f g : ℕ → ℕ} → ((n : ℕ) → f n ≡ g n) → Adds s t f → Adds s t g
 adds-as e p = record { length-same = p .length-same; each = λ n. rw (← e n) (p .each n) }
 
-module _ {s t u : List ℕ} where
-  pub adds-more : (f : ℕ → ℕ → ℕ) {n : ℕ} → Adds s t (λ k. total n (λ i. f i k)) → Adds t u (f n)
-      → Adds s u (λ k. total (n + 1) (λ i. f i k))
-  unfolding total
-  adds-more f {n} p q = adds-as (λ k. rw (add-one n)) (adds-then p q)
-
-  pub adds-join : (h b m : ℕ) (x : ℕ → ℕ) → Adds s t (placed h b x) → Adds t u (placed (h + b) m (λ k. x (b + k)))
-      → Adds s u (placed h (b + m) x)
-  adds-join h b m x p q = adds-as (λ n. sym (placed-join h b m x n)) (adds-then p q)
+pub adds-join : {s t u : List ℕ} (h b m : ℕ) (x : ℕ → ℕ) → Adds s t (placed h b x)
+    → Adds t u (placed (h + b) m (λ k. x (b + k))) → Adds s u (placed h (b + m) x)
+adds-join h b m x p q = adds-as (λ n. sym (placed-join h b m x n)) (adds-then p q)
 
 abbrev pub added : List ℕ → ℕ → ℕ → List ℕ
 added s i x = set s i (bitXor (getD s i 0) (x % 2 ^ 8))

@@ -7,8 +7,8 @@
 --   bytes-more       one more byte of a number stored, after j from byte i on
 --   halves-stored    both halves of a number stored
 --   adds-replaced    a sum stored is added
+--   adds-moved       b bits added from byte i on, of x moved up by w: the digits of x from the weight w on
 --   adds-inside      a number added from a place inside a byte on: what leaves its eight bytes goes to a ninth
---   rest-first       the first bits of a rest, up to the end of their byte
 --   rest-more        one more byte of a rest
 --   rest-all         all bytes of a rest
 use mathlib.Core.Path.{_≡_, refl, sym, ap, _∙_}
@@ -73,8 +73,8 @@ module _ {s t u : List ℕ} {a b : ℕ} {f : ℕ → ℕ} (p : Replaced s t a b 
   }
 
 pub bytes-more : {s t u : List ℕ} (a i j x : ℕ) → Replaced s t (a + i) (8 * j) (λ k. digit x (8 * i + k))
-    → Replaced t u (a + (i + j)) 8 (λ k. digit x (8 * (i + j) + k)) → Replaced s u (a + i) (8 * j + 8)
-    (λ k. digit x (8 * i + k))
+    → Replaced t u (a + (i + j)) 8 (λ k. digit x (8 * (i + j) + k))
+    → Replaced s u (a + i) (8 * j + 8) (λ k. digit x (8 * i + k))
 bytes-more a i j x p q = replaced-more p (a + (i + j)) 8 q (omega arith) (λ k. ap (digit x) (omega arith))
 
 pub halves-stored : {s t u : List ℕ} (a x : ℕ) → Replaced s t (a + 0) 32 (λ k. digit x (0 + k))
@@ -97,6 +97,14 @@ adds-replaced {s} {t} a b f p same = record {
       (λ l. p .above n l ∙ omega (arith, bit< s n));
 }
 
+pub adds-moved : {s t : List ℕ} (i w x b : ℕ) → w ≤ b → b ≤ 64
+    → Adds s t (placed (8 * i) b (digit ((x * 2 ^ w) % 2 ^ 64))) → Adds s t (placed (8 * i + w) (b - w) (digit x))
+adds-moved i w x b l h p =
+    let all : w + (b - w) ≡ b = omega arith in
+    adds-as
+    (λ n. rw (← placed-moved (8 * i) w (b - w) (digit x) n, all)
+    (placed-same (8 * i) b _ _ (λ k m. digit-left x w 64 k (omega arith)) n)) p
+
 module _ (s : List ℕ) (i w x : ℕ) (less : w < 8) (small : x < 2 ^ 64) where
   -- what is stored in the eight bytes: the sum with x, moved up by w
   abbrev Summed : ℕ → Type 0
@@ -106,11 +114,7 @@ module _ (s : List ℕ) (i w x : ℕ) (less : w < 8) (small : x < 2 ^ 64) where
   first : {t : List ℕ} {y : ℕ} → Replaced s t i 64 (digit y) → Summed y
       → Adds s t (placed (8 * i + w) (64 - w) (digit x))
   first q p =
-      let all : w + (64 - w) ≡ 64 = omega arith in
-      adds-as
-      (λ n. rw (← placed-moved (8 * i) w (64 - w) (digit x) n, all)
-      (placed-same (8 * i) 64 _ _ (λ k h. digit-left x w 64 k h) n))
-      (adds-replaced i 64 (digit ((x * 2 ^ w) % 2 ^ 64)) q (p .each))
+      adds-moved i w x 64 (omega arith) (omega arith) (adds-replaced i 64 (digit ((x * 2 ^ w) % 2 ^ 64)) q (p .each))
 
   -- the others, in the ninth
   ninth : (n : ℕ) → placed (8 * (i + (w + 63) / 8)) 8 (digit (x / 2 ^ 1 / 2 ^ (63 - w))) n
@@ -145,17 +149,9 @@ later w x k = digit x (8 - w + k)
 
 -- x is a rest: its digits are added from a place inside byte i on. The first byte has 8 - w of them, each other 8
 module _ {s t : List ℕ} (i w x : ℕ) (less : w < 8) where
-  pub rest-first : Adds s t (placed (8 * i) 8 (digit ((x * 2 ^ w) % 2 ^ 64)))
-      → Adds s t (placed (8 * i + w) (8 - w) (digit x))
-  rest-first p =
-      let all : w + (8 - w) ≡ 8 = omega arith in
-      adds-as
-      (λ n. rw (← placed-moved (8 * i) w (8 - w) (digit x) n, all)
-      (placed-same (8 * i) 8 _ _ (λ k h. digit-left x w 64 k (omega arith)) n)) p
-
   pub rest-more : {u : List ℕ} (j : ℕ) → 0 < j → Adds s t (placed (8 * i + w + (8 - w)) (8 * j - 8) (later w x))
-      → Adds t u (placed (8 * (i + j)) 8 (digit (x / 2 ^ (8 * j - w)))) → Adds s u
-      (placed (8 * i + w + (8 - w)) (8 * (j + 1) - 8) (later w x))
+      → Adds t u (placed (8 * (i + j)) 8 (digit (x / 2 ^ (8 * j - w))))
+      → Adds s u (placed (8 * i + w + (8 - w)) (8 * (j + 1) - 8) (later w x))
   rest-more j some p q =
       let place : 8 * (i + j) ≡ 8 * i + w + (8 - w) + (8 * j - 8) = omega arith in
       let all : 8 * j - 8 + 8 ≡ 8 * (j + 1) - 8 = omega arith in
@@ -168,8 +164,10 @@ module _ {s t : List ℕ} (i w x : ℕ) (less : w < 8) where
       → Adds s t (placed (8 * i + w) (8 - w) (digit x))
       → Adds t u (placed (8 * i + w + (8 - w)) (8 * j - 8) (later w x)) → Adds s u (placed (8 * i + w) c (digit y))
   rest-all y c j e some l p q =
-      adds-as (λ n. placed-fewer (8 * i + w) (8 - w + (8 * j - 8)) c (digit x) (omega arith) past n ∙ placed-same
-      (8 * i + w) c _ _ kept n)
+      adds-as
+      (λ n.
+      placed-fewer (8 * i + w) (8 - w + (8 * j - 8)) c (digit x) (omega arith) past n
+      ∙ placed-same (8 * i + w) c _ _ kept n)
       (adds-join (8 * i + w) (8 - w) (8 * j - 8) (digit x) p q)
     where
       past : (k : ℕ) → c ≤ k → digit x k ≡ 0

@@ -9,7 +9,7 @@ use Rattle.rules.specs.Bits.{placed}
 use Rattle.laws.proofs.Runs.{placed-none}
 use Rattle.numbers.specs.Adds.{Adds}
 use Rattle.numbers.proofs.AddsLaws.{adds-none}
-use Rattle.numbers.proofs.Storing.{later, rest-first, rest-more, rest-all}
+use Rattle.numbers.proofs.Storing.{adds-moved, later, rest-more, rest-all}
 use Rattle.numbers.proofs.add_rest.Statement.{statement}
 use Rattle.numbers.proofs.add_rest.Tie as tie
 
@@ -88,8 +88,8 @@ returns c =
     let start = first .before .before .before in
     let a = start .args in
     rest-all (a .byte) (a .weight) _ (start .pre .1) (a .number) (a .count) (c .before .loop .i)
-    (ap (λ (n : ℕ). a .number % n) (unit (a .count) (omega arith))) (omega arith)
-    (omega arith) (rest-first (a .byte) (a .weight) _ (start .pre .1) (first .add-byte .ensures))
+    (ap (λ (n : ℕ). a .number % n) (unit (a .count) (omega arith))) (omega arith) (omega arith)
+    (adds-moved (a .byte) (a .weight) _ 8 (omega arith) (omega arith) (first .add-byte .ensures))
     (c .before .loop .inv .3)
 
 pub add-rest-spec : {M : Type 1} → statement M
