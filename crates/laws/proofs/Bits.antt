@@ -137,7 +137,8 @@ bit-zeros k n = elim (decLt (n / 8) k) [
 ]
 
 pub bit-cleared : (s : List ℕ) (k n : ℕ) → n < 8 * k → bit (replicate k 0 ++ drop k s) n ≡ 0
-bit-cleared s k n h = bit-front (replicate k 0) (drop k s) n (omega (arith, length-replicate {A = ℕ} k 0)) ∙ bit-zeros k n
+bit-cleared s k n h =
+    bit-front (replicate k 0) (drop k s) n (omega (arith, length-replicate {A = ℕ} k 0)) ∙ bit-zeros k n
 
 halved : (x t : ℕ) → x / 2 ^ suc t ≡ x / 2 / 2 ^ t
 halved x t = let e : suc t ≡ 1 + t = omega arith in rw e (sym (shr-shr x 1 t))

@@ -53,6 +53,7 @@ pub fn lowest_failing(word: &[u8]) -> usize
     requires { ⌜ length (now word) ≡ 2208 ⌝ }
     ensures { λ r. ⌜ Scanned (bit (now (word .entry))) r ⌝ }
 {
-    let table = rules::table();
+    let mut table = [[0i16; 12]; 69];
+    rules::copy_table(&mut table);
     scan(word, &table)
 }

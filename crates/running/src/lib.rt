@@ -43,7 +43,8 @@ pub fn add_blocks(checks: &mut [u8], word: &[u8], from: usize, to: usize)
     requires { ⌜ (length (now checks) ≡ 384) × (from ≤ to) × (to ≤ 69) × (32 * to ≤ length (now word)) ⌝ }
     ensures { λ r. ⌜ Added (blocks (now (word .entry)) from to) (now (checks .entry)) (now (checks .exit)) ⌝ }
 {
-    let table = rules::table();
+    let mut table = [[0i16; 12]; 69];
+    rules::copy_table(&mut table);
     for j in from..to {
         add_block(checks, word, j, &table[j]);
     }

@@ -5,8 +5,8 @@ use Rattle.rules.proofs.TableLaws.{entry-read}
 use Rattle.rules.proofs.entry_at.Statement.{statement}
 use Rattle.rules.proofs.entry_at.Tie as tie
 
-table-requires : tie.Need-table-requires
-table-requires c κs = search needs
+copy-table-requires : tie.Need-copy-table-requires
+copy-table-requires c κs = search needs
 
 mul-result : tie.Need-mul-result
 mul-result c = search needs
@@ -22,8 +22,8 @@ index-2-result c = search needs
 
 returns : tie.Need-returns
 returns c =
-    let a = c .before .before .args in
-    rw (c .before .table .ensures) (entry-read (a .i) (a .j) (omega arith) (omega arith))
+    let a = c .before .before .before .args in
+    rw (c .before .copy-table .ensures) (entry-read (a .i) (a .j) (omega arith) (omega arith))
 
 pub entry-at-spec : {M : Type 1} → statement M
-entry-at-spec = tie.close (tie.spec table-requires mul-result mul-result-2 index-1-result index-2-result returns)
+entry-at-spec = tie.close (tie.spec copy-table-requires mul-result mul-result-2 index-1-result index-2-result returns)

@@ -15,12 +15,12 @@ Inv-loop checks₀ word from to table j₀ checks j = (from ≤ j) × (j ≤ to)
 abbrev μ-loop : tie.MeasureT-loop
 μ-loop checks₀ word from to table j₀ checks j = to - j
 
-table-requires : tie.Need-table-requires Inv-loop μ-loop
-table-requires c κs = search needs
+copy-table-requires : tie.Need-copy-table-requires Inv-loop μ-loop
+copy-table-requires c κs = search needs
 
 loop-holds : tie.Need-loop-holds Inv-loop μ-loop
 loop-holds c =
-    let a = c .before .before .before .args in
+    let a = c .before .before .before .before .args in
     (search needs, search needs, blocks-none (a .word .now) _ (a .from))
 
 mul-add-block : tie.Need-mul-add-block Inv-loop μ-loop
@@ -31,7 +31,7 @@ index-1-add-block c = search needs
 
 add-block-requires : tie.Need-add-block-requires Inv-loop μ-loop
 add-block-requires c κs =
-    let table = c .before .before .before .before .before .table in
+    let table = c .before .before .before .before .before .copy-table in
     (search needs, search needs, search needs, rw (table .ensures))
 
 add-j : tie.Need-add-j Inv-loop μ-loop
@@ -43,7 +43,7 @@ loop-less c = search needs
 loop-again : tie.Need-loop-again Inv-loop μ-loop
 loop-again c =
     let l = c .before .before .before .before .before .before .before in
-    let a = l .before .before .before .before .args in
+    let a = l .before .before .before .before .before .args in
     let j = l .loop .j in
     let added = c .before .before .add-block .ensures in
     let joined = blocks-join (a .word .now) (a .from) j (j + 1) (omega arith) (omega arith) (l .loop .inv .2) added in
@@ -54,7 +54,7 @@ same-length c = search needs
 
 returns : tie.Need-returns Inv-loop μ-loop
 returns c =
-    let e : c .before .loop .j ≡ c .before .before .before .before .before .args .to = omega arith in
+    let e : c .before .loop .j ≡ c .before .before .before .before .before .before .args .to = omega arith in
     rw e at (c .before .loop .inv .2)
 
 pub add-blocks-spec : {M : Type 1} → statement M
@@ -63,7 +63,7 @@ add-blocks-spec =
     (tie.spec
     Inv-loop
     μ-loop
-    table-requires
+    copy-table-requires
     loop-holds
     mul-add-block
     index-1-add-block
