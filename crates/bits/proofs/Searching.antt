@@ -9,7 +9,7 @@
 --   none-left          none of them is 1
 --   first-set          in bits of bytes, from a place on
 --   first-different    of a sum of two: where they first differ
-use mathlib.Core.Path.{_≡_, refl, sym, ap, _∙_}
+use mathlib.Core.Path.{_≡_, sym, ap, _∙_}
 use mathlib.Core.List.{List}
 use Prim.Native.Nat.{ℕ, _+_, _-_, _*_, _/_, _%_, _^_, _≤_, _<_}
 use native.Mathlib.Decide.{decLt}

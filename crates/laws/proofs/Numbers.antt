@@ -12,7 +12,7 @@
 --   ones-digits     the ones of a number of n bits are its n digits added up
 --   trailing-clear  the digits below the lowest 1 of a number's n lowest are 0
 --   trailing-set    and that one is 1, if it is there
-use mathlib.Core.Path.{_≡_, refl, sym, ap, _∙_}
+use mathlib.Core.Path.{_≡_, sym, ap, _∙_}
 use Prim.Native.Nat.{ℕ, zero, suc, _+_, _-_, _*_, _/_, _%_, _^_, _≤_, _<_}
 use native.Mathlib.Decide.{decLt}
 use native.Mathlib.Nat.{mod-lt, div-one, div-eq-of-lt, mul-assoc, not-suc-le-zero, le-of-suc-le-suc}
@@ -27,7 +27,7 @@ use Rattle.rules.specs.Matrix.{total}
 use Rattle.rules.specs.Words.{digit}
 use Rattle.rules.proofs.Sums.{total-same, total-from}
 use Rattle.laws.proofs.Bits.{bit-or}
-use Rattle.laws.proofs.Runs.{run-low, run-high, run-each, run-same, run-below, run-run, run-join, placed-below, placed-in}
+use Rattle.laws.proofs.Runs.{run-low, run-high, run-each, run-below, run-run, run-join, placed-below, placed-in}
 
 pub digit< : (x k : ℕ) → digit x k < 2
 digit< x k = mod-lt _ (lit< tt)

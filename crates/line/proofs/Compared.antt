@@ -4,7 +4,7 @@
 --   difference-lowest   where two runs of bits first differ
 --   difference-none     where they do not
 --   digits-differ       compared with the delimiter's bytes is compared with the delimiter
-use mathlib.Core.Path.{_≡_, refl, ap, _∙_}
+use mathlib.Core.Path.{_≡_, refl, _∙_}
 use mathlib.Core.List.{List}
 use Prim.Native.Nat.{ℕ, _+_, _≤_, _<_}
 use native.Mathlib.Omega.{arith}

@@ -6,19 +6,17 @@
 --   written-begins     so begins a line word whose tail is not written
 --   moved-begins       so does a word of zeros that the payload was added to
 --   padded-blocks      the blocks of padded bytes are the padded payload
-use mathlib.Core.Path.{_≡_, refl, sym, ap, _∙_}
+use mathlib.Core.Path.{_≡_, refl, sym, _∙_}
 use mathlib.Core.List.{List}
-use Prim.Native.Nat.{ℕ, _+_, _-_, _*_, _/_, _%_, _≤_, _<_}
+use Prim.Native.Nat.{ℕ, _+_, _-_, _*_, _/_, _≤_, _<_}
 use native.Mathlib.Omega.{arith}
-use lib.Dec.{lit<}
 use lib.ListN.{length, replicate, length-replicate}
 use Rattle.rules.specs.Bits.{bit, need, zeros, run, placed, Written}
-use Rattle.rules.specs.Matrix.{check}
 use Rattle.rules.specs.Table.{fibre}
 use Rattle.rules.specs.Words.{padded, fullWord, Parity, lineBits}
 use Rattle.rules.proofs.Checks.{check-same}
 use Rattle.laws.proofs.Bits.{bit<, bit-zeros}
-use Rattle.laws.proofs.Runs.{run-low, run-high, run-each, run-same, run-none, run-below, placed-bits}
+use Rattle.laws.proofs.Runs.{run-low, run-high, run-each, run-same, run-none, placed-bits}
 use Rattle.numbers.specs.Adds.{Adds}
 use Rattle.running.specs.Running.{blocks}
 use Rattle.running.proofs.Blocks.{first-blocks}

@@ -19,9 +19,9 @@ use lib.Bits.{bitOr, bitXor}
 use lib.ListN.{length, getD}
 use Rattle.rules.specs.Bits.{bit, zeros, run, placed, sum}
 use Rattle.rules.specs.Words.{digit}
-use Rattle.laws.proofs.Bits.{bit<, bit-past, bit-digit, bit-xor}
+use Rattle.laws.proofs.Bits.{bit-past, bit-digit, bit-xor}
 use Rattle.laws.proofs.Numbers.{digit-high, digit-right, digit-left, digit-joined, digit-across}
-use Rattle.laws.proofs.Runs.{run-low, run-high, run-none, run-each, run-same}
+use Rattle.laws.proofs.Runs.{run-none, run-each, run-same}
 use Rattle.numbers.specs.Numbers.{Holds}
 
 -- a byte's digits are the bits at its places

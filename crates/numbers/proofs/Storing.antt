@@ -17,7 +17,7 @@ use Prim.Native.Nat.{ℕ, _+_, _-_, _*_, _/_, _%_, _^_, _≤_, _<_}
 use native.Mathlib.Decide.{decLt, ℕ-discrete}
 use native.Mathlib.Omega.{arith}
 use lib.ListN.{length, set, length-set}
-use Rattle.rules.specs.Bits.{bit, zeros, run, placed, sum}
+use Rattle.rules.specs.Bits.{bit, zeros, placed, sum}
 use Rattle.rules.specs.Words.{digit}
 use Rattle.laws.proofs.Bits.{bit<, bit-set, bit-set-other}
 use Rattle.laws.proofs.Numbers.{digit-high, digit-right, digit-left, digit-low, digit-kept}

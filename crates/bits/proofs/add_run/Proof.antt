@@ -1,7 +1,7 @@
 -- `bits::add_run` meets its contract. The invariant: the first k numbers are added.
 use borrow.Author.Needs.{needs}
 use mathlib.Core.Path.{_≡_}
-use Prim.Native.Nat.{ℕ, _+_, _-_, _*_, _/_, _%_, _≤_}
+use Prim.Native.Nat.{_+_, _-_, _*_, _/_, _%_, _≤_}
 use native.Mathlib.Omega.{arith}
 use Rattle.rules.specs.Bits.{bit, placed}
 use Rattle.laws.proofs.Runs.{placed-none}

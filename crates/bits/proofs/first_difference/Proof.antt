@@ -1,7 +1,7 @@
 -- `bits::first_difference` meets its contract. The invariant: the first k numbers of both are alike.
 use borrow.Author.Needs.{needs}
 use mathlib.Core.Path.{_≡_}
-use Prim.Native.Nat.{ℕ, _+_, _-_, _*_, _/_, _≤_}
+use Prim.Native.Nat.{_+_, _-_, _*_, _/_, _≤_}
 use native.Mathlib.Omega.{arith}
 use lib.Bits.{xor-lt}
 use Rattle.rules.specs.Bits.{bit, sum}

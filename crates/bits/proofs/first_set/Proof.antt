@@ -1,7 +1,7 @@
 -- `bits::first_set` meets its contract. The invariant: the bits of the first k numbers are 0.
 use borrow.Author.Needs.{needs}
 use mathlib.Core.Path.{_≡_}
-use Prim.Native.Nat.{ℕ, _+_, _-_, _*_, _/_, _≤_}
+use Prim.Native.Nat.{_+_, _-_, _*_, _/_, _≤_}
 use native.Mathlib.Omega.{arith}
 use Rattle.rules.specs.Bits.{bit}
 use Rattle.bits.proofs.Moving.{at-place}

@@ -1,5 +1,4 @@
 -- `numbers::lowest_one` meets its contract.
-use borrow.Author.Needs.{needs}
 use native.Mathlib.Omega.{arith}
 use lib.Count.{trailing-le}
 use Rattle.laws.proofs.Numbers.{trailing-clear, trailing-set}

@@ -1,5 +1,4 @@
 -- `numbers::ones_in` meets its contract.
-use borrow.Author.Needs.{needs}
 use native.Mathlib.Omega.{arith}
 use lib.Count.{ones-le}
 use Rattle.laws.proofs.Numbers.{ones-digits}
