@@ -9,6 +9,7 @@
 --   adds-replaced    a sum stored is added
 --   adds-moved       b bits added from byte i on, of x moved up by w: the digits of x from the weight w on
 --   adds-inside      a number added from a place inside a byte on: what leaves its eight bytes goes to a ninth
+--   later w x        the digits of a rest x from its second byte on, where it begins at the weight w
 --   rest-more        one more byte of a rest
 --   rest-all         all bytes of a rest
 use mathlib.Core.Path.{_≡_, refl, sym, ap, _∙_}
@@ -143,7 +144,6 @@ module _ (s : List ℕ) (i w x : ℕ) (less : w < 8) (small : x < 2 ^ 64) where
       let all : 64 - w + w ≡ 64 = omega arith in
       rw all at (adds-join (8 * i + w) (64 - w) w (digit x) (first q p) (adds-as ninth r))
 
--- the digits of a rest from its second byte on, where it begins at the weight w
 abbrev pub later : ℕ → ℕ → ℕ → ℕ
 later w x k = digit x (8 - w + k)
 
