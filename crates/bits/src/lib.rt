@@ -4,11 +4,10 @@
 // Its functions serve the crates above, which show what they require; no user calls them.
 ghost use mathlib.Core.Path.{_≡_};
 ghost use mathlib.Core.List.{_++_};
-ghost use Prim.Native.Nat.{_+_, _*_, _/_, _%_, _^_, _≤_, _<_};
+ghost use Prim.Native.Nat.{ℕ, _+_, _*_, _/_, _%_, _^_, _≤_, _<_};
 ghost use lib.ListN.{length, drop, replicate};
-ghost use Rattle.rules.specs.Bits.{bit, need, placed};
+ghost use Rattle.rules.specs.Bits.{bit, need, placed, Adds};
 ghost use Rattle.rules.specs.Matrix.{total};
-ghost use Rattle.numbers.specs.Adds.{Adds};
 ghost use Rattle.bits.specs.Searches.{FirstSet, FirstDifference};
 
 // The bytes that a run of bits takes.
@@ -26,7 +25,8 @@ pub fn bit_at(s: &[u8], place: usize) -> u8
     (s[place / 8] >> (place % 8)) % 2
 }
 
-// Adds `count` bits of `from`, those from `start` on, to the bits of `s` from `at` on. Both places may be inside a byte.
+// Adds `count` bits of `from`, those from `start` on, to the bits of `s` from `at` on. Both places may be inside a
+// byte.
 pub fn add_run(s: &mut [u8], at: usize, from: &[u8], start: usize, count: usize)
     requires { ⌜ (at + count ≤ 8 * length (now s)) × (start + count ≤ 8 * length (now from)) ⌝ }
     ensures { λ r. ⌜
@@ -44,6 +44,18 @@ pub fn add_run(s: &mut [u8], at: usize, from: &[u8], start: usize, count: usize)
     }
     let number = numbers::rest_at(from, start / 8 + 8 * whole, start % 8);
     numbers::add_rest(s, at / 8 + 8 * whole, at % 8, number, left);
+}
+
+// Puts the first `count` bits of `from` where the first bits of `s` are 0: whole bytes are copied.
+pub fn put_first(s: &mut [u8], from: &[u8], count: usize)
+    requires { ⌜
+        (count ≤ 8 * length (now s)) × (count ≤ 8 * length (now from)) × ((n : ℕ) → n < count → bit (now s) n ≡ 0)
+        ⌝ }
+    ensures { λ r. ⌜ Adds (now (s .entry)) (now (s .exit)) (placed 0 count (bit (now (from .entry)))) ⌝ }
+{
+    let whole = count / 8;
+    copy(&mut s[..whole], &from[..whole]);
+    add_run(s, 8 * whole, from, 8 * whole, count % 8);
 }
 
 // Sets the first `count` bytes to 0.

@@ -7,14 +7,17 @@
 use mathlib.Core.Path.{_≡_, refl, sym, ap, subst, _∙_}
 use mathlib.Core.List.{List}
 use Prim.Native.Nat.{ℕ}
+use Rattle.rules.specs.Formats.{fibreFormat}
 use Rattle.rules.specs.Promises.{WordChecked, LineChecked}
 use Rattle.rules.specs.declared.Verdict.the-variants.{Accepted}
 use Rattle.rules.specs.declared.Judgement.{Judgement}
 use Rattle.rules.specs.declared.Judgement.the-variants.{Judged}
+use Rattle.parity.proofs.Single.{fibre-one}
 use Rattle.theorems.specs.Exactly.{Exactly}
 use Rattle.theorems.specs.Accepted.{GoodWord, GoodLine}
 use Rattle.theorems.proofs.FullWords.{word-accepted}
 use Rattle.theorems.proofs.Lines.{line-accepted}
+use Rattle.theorems.proofs.Fibre.{fibre-sized}
 use Rattle.lines.specs.Texts.{text}
 use Rattle.answers.specs.Answers.{lineOf, statusOf, Says}
 use Rattle.answers.specs.declared.Said.{Said}
@@ -31,22 +34,26 @@ shown P Good Seen judged alone accepted s h = (
   λ good. subst Seen (sym (h .2 ∙ ap said.Judged (judged (h .0) (h .1) .1 good))) accepted,
 )
 
-pub word-said : (K : ℕ) (w : List ℕ) (s : Said) → Says (WordChecked K w) s
-    → Exactly (lineOf s ≡ text "accepted\n") (GoodWord K w)
+pub word-said : (K : ℕ) (w : List ℕ) (s : Said) → Says (WordChecked fibreFormat K w) s
+    → Exactly (lineOf s ≡ text "accepted\n") (GoodWord fibreFormat K w)
 word-said K w =
-    shown (WordChecked K w) (GoodWord K w) (λ s. lineOf s ≡ text "accepted\n") (word-accepted K w) accepted-alone refl
+    shown (WordChecked fibreFormat K w) (GoodWord fibreFormat K w) (λ s. lineOf s ≡ text "accepted\n")
+    (word-accepted fibreFormat K w) accepted-alone refl
 
-pub word-status : (K : ℕ) (w : List ℕ) (s : Said) → Says (WordChecked K w) s → Exactly (statusOf s ≡ 0) (GoodWord K w)
+pub word-status : (K : ℕ) (w : List ℕ) (s : Said) → Says (WordChecked fibreFormat K w) s
+    → Exactly (statusOf s ≡ 0) (GoodWord fibreFormat K w)
 word-status K w =
-    shown (WordChecked K w) (GoodWord K w) (λ s. statusOf s ≡ 0) (word-accepted K w) accepted-status refl
+    shown (WordChecked fibreFormat K w) (GoodWord fibreFormat K w) (λ s. statusOf s ≡ 0)
+    (word-accepted fibreFormat K w) accepted-status refl
 
-pub line-said : (K : ℕ) (l : List ℕ) (d : ℕ) (s : Said) → Says (LineChecked K l d) s
-    → Exactly (lineOf s ≡ text "accepted\n") (GoodLine K l d)
+pub line-said : (K : ℕ) (l : List ℕ) (d : ℕ) (s : Said) → Says (LineChecked fibreFormat K l d) s
+    → Exactly (lineOf s ≡ text "accepted\n") (GoodLine fibreFormat K l d)
 line-said K l d =
-    shown (LineChecked K l d) (GoodLine K l d) (λ s. lineOf s ≡ text "accepted\n") (line-accepted K l d)
-    accepted-alone refl
+    shown (LineChecked fibreFormat K l d) (GoodLine fibreFormat K l d) (λ s. lineOf s ≡ text "accepted\n")
+    (line-accepted fibreFormat fibre-one fibre-sized K l d) accepted-alone refl
 
-pub line-status : (K : ℕ) (l : List ℕ) (d : ℕ) (s : Said) → Says (LineChecked K l d) s
-    → Exactly (statusOf s ≡ 0) (GoodLine K l d)
+pub line-status : (K : ℕ) (l : List ℕ) (d : ℕ) (s : Said) → Says (LineChecked fibreFormat K l d) s
+    → Exactly (statusOf s ≡ 0) (GoodLine fibreFormat K l d)
 line-status K l d =
-    shown (LineChecked K l d) (GoodLine K l d) (λ s. statusOf s ≡ 0) (line-accepted K l d) accepted-status refl
+    shown (LineChecked fibreFormat K l d) (GoodLine fibreFormat K l d) (λ s. statusOf s ≡ 0)
+    (line-accepted fibreFormat fibre-one fibre-sized K l d) accepted-status refl

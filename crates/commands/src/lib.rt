@@ -4,6 +4,7 @@
 // long.
 ghost use Prim.Native.Nat.{_≤_};
 ghost use lib.ListN.{length};
+ghost use Rattle.rules.specs.Formats.{fibreFormat};
 ghost use Rattle.rules.specs.Promises.{WordChecked, LineChecked};
 ghost use Rattle.answers.specs.Answers.{Says};
 use answers::Said;
@@ -43,7 +44,7 @@ pub fn encode() -> u8 {
         return TROUBLE;
     }
     let size = got.size;
-    let mut line = [0u8; 2121];
+    let mut line = [0u8; rules::fibre::LINE_BYTES];
     let answer = line::encode(bits, &payload[..size], delimiter, &mut line);
     match answer {
         Answer::Done => {
@@ -89,7 +90,7 @@ pub fn complete() -> u8 {
 
 // What is said of a full word.
 pub fn word_answer(bits: usize, word: &[u8]) -> Said
-    ensures { λ r. ⌜ Says (WordChecked bits (now (word .entry))) r ⌝ }
+    ensures { λ r. ⌜ Says (WordChecked fibreFormat bits (now (word .entry))) r ⌝ }
 {
     Said::Judged(word::check(bits, word))
 }
@@ -113,7 +114,7 @@ pub fn check_word() -> u8 {
 
 // What is said of a line word.
 pub fn line_answer(bits: usize, line: &[u8], delimiter: usize) -> Said
-    ensures { λ r. ⌜ Says (LineChecked bits (now (line .entry)) delimiter) r ⌝ }
+    ensures { λ r. ⌜ Says (LineChecked fibreFormat bits (now (line .entry)) delimiter) r ⌝ }
 {
     Said::Judged(line::check(bits, line, delimiter))
 }

@@ -2,6 +2,7 @@
 ghost use mathlib.Core.Path.{_≡_};
 ghost use lib.ListN.{length};
 ghost use Rattle.io.specs.Counts.{Counts};
+ghost use Rattle.rules.specs.Formats.{fibreFormat};
 ghost use Rattle.console.specs.Spelled.{WithDigit, WithByte, Spelled, isOne, orZero};
 ghost use Rattle.console.specs.Lines.{lineBytes};
 use crate::say;
@@ -117,13 +118,13 @@ pub fn argument(i: usize, name: &[u8], range: &[u8]) -> Number {
     number
 }
 
-// How many bytes of a line the line word of so many payload bits takes. There is one for at most 14,392 of them.
+// How many bytes of a line the line word of so many payload bits takes. There is one for the most payload bits at most.
 pub fn line_bytes(bits: usize, line: &[u8]) -> usize
     ensures { λ r. ⌜ Counts r (now (line .entry)) ⌝ }
-    ensures { λ r. ⌜ r ≡ lineBytes bits (length (now (line .entry))) ⌝ }
+    ensures { λ r. ⌜ r ≡ lineBytes fibreFormat bits (length (now (line .entry))) ⌝ }
 {
-    if 14392 < bits {
+    if rules::fibre::PAYLOAD_MOST < bits {
         return 0;
     }
-    io::count(bits::needed(bits + 2570) as isize, line)
+    io::count(bits::needed(bits + rules::fibre::TAIL_BITS) as isize, line)
 }

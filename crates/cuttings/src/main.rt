@@ -1,16 +1,17 @@
-// Feeds one payload to the stream by many cuttings, and compares. The payload has 1,285 bits, and goes in pieces of 1, 7,
-// 8, 9, 255, 256 and 257 bits (the last one shorter), with an empty piece and a refused one after each. After every piece
-// the stream must be what a fresh stream becomes by the same first bits as one single piece. The finish must write what
-// encode writes after the payload. Then come the lessons of paper 01's sheet on a full stream and on a fresh one.
+// Feeds one payload to the stream by many cuttings, and compares. The payload has 1,285 bits, and goes in pieces of 1,
+// 7, 8, 9, 255, 256 and 257 bits (the last one shorter), with an empty piece and a refused one after each. After every
+// piece the stream must be what a fresh stream becomes by the same first bits as one single piece. The finish must
+// write what encode writes after the payload. Then come the lessons of paper 01's sheet on a full stream and on a fresh
+// one.
 // Each line says first whether its fact is right; the last two say how many are right and how many are wrong.
 ghost use mathlib.Core.Path.{_≡_};
 ghost use Prim.Native.Nat.{_+_, _≤_, _<_};
 ghost use lib.ListN.{length};
 ghost use Rattle.rules.specs.Bits.{need};
-ghost use Rattle.rules.specs.Promises.{number};
+ghost use Rattle.rules.specs.Promises.{refusalOf};
 use libc::STDOUT_FILENO;
 use rules::Answer;
-use rules::Step;
+use rules::Outcome;
 use rules::Stream;
 
 // The payload's bits: 160 bytes and 5 bits.
@@ -49,7 +50,7 @@ fn write_payload(payload: &mut [u8])
 
 // The number of an answer: the refusal's, and 0 for none.
 fn number_of(answer: Answer) -> usize
-    ensures { λ r. ⌜ r ≡ number answer ⌝ }
+    ensures { λ r. ⌜ r ≡ refusalOf answer ⌝ }
 {
     match answer {
         Answer::Done => 0,
@@ -67,18 +68,18 @@ fn same_stream(one: Stream, other: Stream) -> bool {
     check::same(&first, &second)
 }
 
-// Whether a step answers by this number and hands back this stream.
-fn is_step(step: Step, number: usize, stream: Stream) -> bool {
-    let answer = step.answer;
+// Whether an outcome answers by this number and hands back this stream.
+fn is_outcome(outcome: Outcome, number: usize, stream: Stream) -> bool {
+    let answer = outcome.answer;
     if number_of(answer) != number {
         return false;
     }
-    let handed = step.stream;
+    let handed = outcome.stream;
     same_stream(handed, stream)
 }
 
 // Hands the stream a piece: the first bytes that a run of so many bits takes.
-fn hand(stream: Stream, count: usize, bytes: &[u8]) -> Step
+fn hand(stream: Stream, count: usize, bytes: &[u8]) -> Outcome
     requires { ⌜ need count ≤ length (now bytes) ⌝ }
 {
     let end = bits::needed(count);
@@ -86,7 +87,7 @@ fn hand(stream: Stream, count: usize, bytes: &[u8]) -> Step
 }
 
 // Cuts `count` bits out of the payload, those from `at` on, and hands them to the stream as a piece.
-fn feed(stream: Stream, payload: &[u8], at: usize, count: usize) -> Step
+fn feed(stream: Stream, payload: &[u8], at: usize, count: usize) -> Outcome
     requires { ⌜ (length (now payload) ≡ 161) × (at + count ≤ 1285) ⌝ }
 {
     let mut bytes = [0u8; 161];
@@ -94,9 +95,9 @@ fn feed(stream: Stream, payload: &[u8], at: usize, count: usize) -> Step
     hand(stream, count, &bytes)
 }
 
-// Whether a step is right after the piece that ends at `end`: accepted, so many bits held, and the stream what a fresh one
-// becomes by the same first bits as one single piece.
-fn is_fed(step: Step, payload: &[u8], end: usize) -> bool
+// Whether an outcome is right after the piece that ends at `end`: accepted, so many bits held, and the stream what a
+// fresh one becomes by the same first bits as one single piece.
+fn is_fed(outcome: Outcome, payload: &[u8], end: usize) -> bool
     requires { ⌜ (length (now payload) ≡ 161) × (end ≤ 1285) ⌝ }
 {
     let whole = feed(stream::begin(), payload, 0, end);
@@ -104,17 +105,17 @@ fn is_fed(step: Step, payload: &[u8], end: usize) -> bool
     if stream.held != end {
         return false;
     }
-    is_step(step, 0, stream)
+    is_outcome(outcome, 0, stream)
 }
 
 // A piece that changes nothing: an empty one, by number 0, or one that is refused by its number.
 fn take_idle(way: Way, count: usize, bytes: &[u8], number: usize) -> Way {
     let before = way.stream;
-    let step = stream::piece(before, count, bytes);
-    let after = step.stream;
+    let outcome = stream::piece(before, count, bytes);
+    let after = outcome.stream;
     Way {
         stream: after,
-        right: way.right & is_step(step, number, before),
+        right: way.right & is_outcome(outcome, number, before),
     }
 }
 
@@ -123,11 +124,11 @@ fn take_piece(way: Way, payload: &[u8], at: usize, count: usize) -> Way
     requires { ⌜ (length (now payload) ≡ 161) × (at + count ≤ 1285) ⌝ }
 {
     let before = way.stream;
-    let step = feed(before, payload, at, count);
-    let after = step.stream;
+    let outcome = feed(before, payload, at, count);
+    let after = outcome.stream;
     let next = Way {
         stream: after,
-        right: way.right & is_fed(step, payload, at + count),
+        right: way.right & is_fed(outcome, payload, at + count),
     };
     take_idle(take_idle(next, 0, b"", 0), 9, b"U", 2)
 }
@@ -166,24 +167,24 @@ fn write_tail(payload: &[u8], tail: &mut [u8]) -> usize
 {
     let mut line = [0u8; 482];
     let answer = line::encode(K, payload, DELIMITER, &mut line);
-    bits::clear(tail, 322);
+    bits::clear(tail, rules::fibre::TAIL_BYTES);
     bits::add_run(tail, 0, &line, K, 2570);
     number_of(answer)
 }
 
-// Whether the finish is right: 322 bytes written, those that encode writes after the payload, and the 8 after them left; a
-// fresh stream; and a second finish refused, with nothing changed.
+// Whether the finish is right: 322 bytes written, those that encode writes after the payload, and the 8 after them
+// left; a fresh stream; and a second finish refused, with nothing changed.
 fn is_finished(stream: Stream, payload: &[u8]) -> bool
     requires { ⌜ length (now payload) ≡ 161 ⌝ }
 {
     let mut written = [BLANK; 330];
-    let step = stream::finish(stream, DELIMITER, &mut written);
-    if !is_step(step, 0, stream::begin()) {
+    let outcome = stream::finish(stream, DELIMITER, &mut written);
+    if !is_outcome(outcome, 0, stream::begin()) {
         return false;
     }
-    let fresh = step.stream;
+    let fresh = outcome.stream;
     let again = stream::finish(fresh, DELIMITER, &mut written);
-    if !is_step(again, 1, fresh) {
+    if !is_outcome(again, 1, fresh) {
         return false;
     }
     let mut tail = [BLANK; 330];
@@ -249,12 +250,12 @@ fn try_full() -> u64
     ensures { λ r. ⌜ r ≤ 2 ⌝ }
 {
     let stream = Stream {
-        held: 14392,
-        checks: [BLANK; 384],
+        held: rules::fibre::PAYLOAD_MOST,
+        checks: [BLANK; rules::STREAM_BYTES],
     };
-    let none = tell(is_step(stream::piece(stream, 0, b""), 0, stream));
+    let none = tell(is_outcome(stream::piece(stream, 0, b""), 0, stream));
     io::write_all(STDOUT_FILENO, b"14392 held, piece of 0 bits\n");
-    let one = tell(is_step(stream::piece(stream, 1, b"\x01"), 6, stream));
+    let one = tell(is_outcome(stream::piece(stream, 1, b"\x01"), 6, stream));
     io::write_all(STDOUT_FILENO, b"14392 held, piece of 1 bit\n");
     none + one
 }
@@ -264,9 +265,11 @@ fn try_fresh() -> u64
     ensures { λ r. ⌜ r ≤ 1 ⌝ }
 {
     let fresh = stream::begin();
-    let mut written = [BLANK; 322];
-    let step = stream::finish(fresh, 1024, &mut written);
-    let right = tell(is_step(step, 1, fresh) & check::same(&written, &[BLANK; 322]));
+    let mut written = [BLANK; rules::fibre::TAIL_BYTES];
+    let outcome = stream::finish(fresh, 1024, &mut written);
+    let right = tell(
+        is_outcome(outcome, 1, fresh) & check::same(&written, &[BLANK; rules::fibre::TAIL_BYTES]),
+    );
     io::write_all(STDOUT_FILENO, b"fresh finish, delimiter 1024\n");
     right
 }

@@ -1,4 +1,5 @@
--- Fact 4: whether two places lie in exactly the same checks is settled by the lines of the table. Any block size, any table.
+-- Fact 4: whether two places lie in exactly the same checks is settled by the lines of the table. Any block size, any
+-- table.
 --
 --   lines-alike     the lines of two places that lie in the same checks are alike
 --   one-line        of one line, they are one place
@@ -16,7 +17,7 @@ use Rattle.rules.proofs.Tests.{every, every-at, every-of}
 use Rattle.rules.proofs.Checks.{place-below, block-some, block-below}
 use Rattle.laws.proofs.Around.{around-swap, around-cancel, around-meet, around-back}
 use Rattle.facts.specs.Claims.{PlacesApart}
-use Rattle.facts.specs.Lines.{noneEmpty, paired, rowByRow, asFar, alike, noneAlike}
+use Rattle.facts.specs.Lines.{noneEmpty, paired, rowByRow, asFar, linesAlike, noneAlike}
 use Rattle.facts.proofs.Places.{one-at, has-one, where-one, line-turn}
 use Rattle.facts.proofs.Members.{checks-told}
 
@@ -35,13 +36,17 @@ module _ (z : ℕ) (some : 0 < z) where
       let r = around-back z some t x h in
       (r .0, r .2, sym (same (r .0) (r .1)) ∙ has-one z x (r .0) t (r .2))
 
-  blocks-meet : (t s : ℕ) → t < z → s < z → (a b : ℤ) → ((r : ℕ) → r < z → block z a r t ≡ block z b r s) → T (paired a b (meets z t s))
+  blocks-meet : (t s : ℕ) → t < z → s < z → (a b : ℤ) → ((r : ℕ) → r < z → block z a r t ≡ block z b r s)
+      → T (paired a b (meets z t s))
   blocks-meet t s ht hs (pos x) (pos y) same =
       let r = one-too t x ht (pos y) s same in
       is-equal ((s + x) % z) ((t + y) % z)
-      (ap (λ (n : ℕ). (n + x) % z) (where-one z y (r .0) s (r .2)) ∙ around-swap z (r .0) y x ∙ ap (λ (n : ℕ). (n + y) % z) (r .1))
+      (ap (λ (n : ℕ). (n + x) % z) (where-one z y (r .0) s (r .2))
+      ∙ around-swap z (r .0) y x
+      ∙ ap (λ (n : ℕ). (n + y) % z) (r .1))
   blocks-meet t s ht hs (pos x) (negsuc n) same = absurd (omega (arith, one-too t x ht (negsuc n) s same .2))
-  blocks-meet t s ht hs (negsuc m) (pos y) same = absurd (omega (arith, one-too s y hs (negsuc m) t (λ r l. sym (same r l)) .2))
+  blocks-meet t s ht hs (negsuc m) (pos y) same =
+      absurd (omega (arith, one-too s y hs (negsuc m) t (λ r l. sym (same r l)) .2))
   blocks-meet t s ht hs (negsuc m) (negsuc n) same = tt
 
 -- what follows for each pair of turns, follows row by row
@@ -55,7 +60,8 @@ rows-each : (c : Code) (j k : ℕ) (f g : ℕ → ℕ → Bool) → ((x y : ℕ)
     → T (rowByRow c j k f) → T (rowByRow c j k g)
 rows-each c j k f g h t =
     every-of (c .rows) (λ i. paired (entry c i j) (entry c i k) g)
-    (λ i l. paired-each (entry c i j) (entry c i k) f g h (every-at (c .rows) (λ i. paired (entry c i j) (entry c i k) f) t i l))
+    (λ i l. paired-each (entry c i j) (entry c i k) f g h
+    (every-at (c .rows) (λ i. paired (entry c i j) (entry c i k) f) t i l))
 
 module _ (c : Code) (p q : ℕ) (hp : p < places c) (same : checksOf c p ≡ checksOf c q) where
   abbrev z : ℕ
@@ -70,9 +76,12 @@ module _ (c : Code) (p q : ℕ) (hp : p < places c) (same : checksOf c p ≡ che
   row-meets : (i : ℕ) → i < c .rows → T (paired (entry c i (p / z)) (entry c i (q / z)) meet)
   row-meets i h =
       blocks-meet z some (p % z) (q % z) (mod-lt p some) (mod-lt q some) (entry c i (p / z)) (entry c i (q / z))
-      (λ r l. sym (one-at c i r p l) ∙ checks-told c p q same (z * i + r) (place-below z i (c .rows) r h l) ∙ one-at c i r q l)
+      (λ r l.
+      sym (one-at c i r p l)
+      ∙ checks-told c p q same (z * i + r) (place-below z i (c .rows) r h l)
+      ∙ one-at c i r q l)
 
-  pub lines-alike : T (alike c (p / z) (q / z))
+  pub lines-alike : T (linesAlike c (p / z) (q / z))
   lines-alike =
       rows-each c (p / z) (q / z) meet (λ x y. rowByRow c (p / z) (q / z) (asFar z x y))
       (λ x y e. rows-each c (p / z) (q / z) meet (asFar z x y) (far x y e) met) met
@@ -82,7 +91,8 @@ module _ (c : Code) (p q : ℕ) (hp : p < places c) (same : checksOf c p ≡ che
 
       far : (x y : ℕ) → T (meet x y) → (u v : ℕ) → T (meet u v) → T (asFar z x y u v)
       far x y e u v f =
-          is-equal ((x + v) % z) ((u + y) % z) (around-meet z some (q % z) (p % z) x y u v (eqb→eq _ _ e) (eqb→eq _ _ f))
+          is-equal ((x + v) % z) ((u + y) % z)
+          (around-meet z some (q % z) (p % z) x y u v (eqb→eq _ _ e) (eqb→eq _ _ f))
 
   -- a row in which the line has a turn tells the column
   pub one-line : T (noneEmpty c) → p / z ≡ q / z → p ≡ q
@@ -96,9 +106,11 @@ module _ (c : Code) (p q : ℕ) (hp : p < places c) (same : checksOf c p ≡ che
       ∙ div-add-mod q z
 
 -- the test of a line and an earlier one
-told-apart : (c : Code) → T (noneAlike c) → (j k : ℕ) → j < k → k < c .columns → T (alike c j k) → ⊥
+told-apart : (c : Code) → T (noneAlike c) → (j k : ℕ) → j < k → k < c .columns → T (linesAlike c j k) → ⊥
 told-apart c a j k l h =
-    T-not (alike c j k) (every-at k (λ j. not (alike c j k)) (every-at (c .columns) (λ k. every k (λ j. not (alike c j k))) a k h) j l)
+    T-not (linesAlike c j k)
+    (every-at k (λ j. not (linesAlike c j k))
+    (every-at (c .columns) (λ k. every k (λ j. not (linesAlike c j k))) a k h) j l)
 
 pub places-apart : (c : Code) → T (noneEmpty c) → T (noneAlike c) → PlacesApart c
 places-apart c u a p q hp hq same = elim (decLt (p / c .size) (q / c .size)) [

@@ -1,4 +1,5 @@
--- Fact 3: one changed place breaks a check. Any block size, any table; that there is such a check asks that no line is empty.
+-- Fact 3: one changed place breaks a check. Any block size, any table; that there is such a check asks that no line is
+-- empty.
 --
 --   check-changed        a check after the change is the check before it and the matrix's number there, added mod 2
 --   change-breaks-own    the checks that break are those that the place is in
@@ -20,7 +21,8 @@ as-sum : (e : Bool) (b : ℕ) → (cond e ((b + 1) % 2) b + 0) % 2 ≡ (b + cond
 as-sum true b = omega arith
 as-sum false b = refl
 
-pub check-changed : (c : Code) (n p : ℕ) (w : ℕ → ℕ) → p < places c → check c n (changed p w) ≡ (check c n w + one c n p) % 2
+pub check-changed : (c : Code) (n p : ℕ) (w : ℕ → ℕ) → p < places c
+    → check c n (changed p w) ≡ (check c n w + one c n p) % 2
 check-changed c n p w h =
     omega (arith, check-sum c n (changed p w) zeros, check-zeros c n, check-below c n (changed p w))
     ∙ check-same c n (sum (changed p w) zeros) (sum w (only p)) (λ q l. as-sum (eqb q p) (w q))
@@ -31,4 +33,6 @@ pub change-breaks-own : (c : Code) → ChangeBreaksOwn c
 change-breaks-own c p w h hold n l = omega (arith, check-changed c n p w h, hold n l, one-below c n p)
 
 pub change-breaks : (c : Code) → T (noneEmpty c) → ChangeBreaks c
-change-breaks c u p w h hold = let n = place-in c u p h in (n .0, n .1, change-breaks-own c p w h hold (n .0) (n .1) ∙ n .2)
+change-breaks c u p w h hold =
+    let n = place-in c u p h in
+    (n .0, n .1, change-breaks-own c p w h hold (n .0) (n .1) ∙ n .2)

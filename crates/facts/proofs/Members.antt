@@ -13,7 +13,7 @@ use native.Mathlib.Omega.{arith}
 use lib.Dec.{eqb}
 use borrow.Author.Tests.{eq-eqb, ne-eqb}
 use Rattle.rules.specs.Matrix.{Code, checks, one, checksBelow, checksOf}
-use Rattle.rules.proofs.Tests.{number, number-bit}
+use Rattle.rules.proofs.Tests.{asBit, asBit-bit}
 use Rattle.rules.proofs.Checks.{one-below}
 
 abbrev pub among : ℕ → List ℕ → Bool
@@ -22,7 +22,9 @@ among n (m ∷ ms) = eqb n m || among n ms
 
 among-join : (n : ℕ) (xs ys : List ℕ) → among n (xs ++ ys) ≡ (among n xs || among n ys)
 among-join n [] ys = refl
-among-join n (x ∷ xs) ys = ap (λ (b : Bool). eqb n x || b) (among-join n xs ys) ∙ sym (or-assoc (eqb n x) (among n xs) (among n ys))
+among-join n (x ∷ xs) ys =
+    ap (λ (b : Bool). eqb n x || b) (among-join n xs ys)
+    ∙ sym (or-assoc (eqb n x) (among n xs) (among n ys))
 
 among-here : (b : Bool) (n : ℕ) → among n (cond b (n ∷ []) []) ≡ b
 among-here true n = rw (eq-eqb n n refl)
@@ -36,7 +38,8 @@ module _ (c : Code) (p : ℕ) where
   among-above : (b n : ℕ) → b ≤ n → among n (checksBelow c p b) ≡ false
   among-above zero n h = refl
   among-above (suc b) n h =
-      among-join n (checksBelow c p b) _ ∙ ap₂ _||_ (among-above b n (omega arith)) (among-other (eqb (one c b p) 1) n b (λ e. omega arith))
+      among-join n (checksBelow c p b) _
+      ∙ ap₂ _||_ (among-above b n (omega arith)) (among-other (eqb (one c b p) 1) n b (λ e. omega arith))
 
   among-below : (b n : ℕ) → n < b → among n (checksBelow c p b) ≡ eqb (one c n p) 1
   among-below zero n h = absurd (not-suc-le-zero h)
@@ -56,6 +59,6 @@ module _ (c : Code) (p : ℕ) where
 
 pub checks-told : (c : Code) (p q : ℕ) → checksOf c p ≡ checksOf c q → (n : ℕ) → n < checks c → one c n p ≡ one c n q
 checks-told c p q e n h =
-    sym (number-bit (one c n p) (one-below c n p))
-    ∙ ap number (sym (among-checks c p n h) ∙ ap (among n) e ∙ among-checks c q n h)
-    ∙ number-bit (one c n q) (one-below c n q)
+    sym (asBit-bit (one c n p) (one-below c n p))
+    ∙ ap asBit (sym (among-checks c p n h) ∙ ap (among n) e ∙ among-checks c q n h)
+    ∙ asBit-bit (one c n q) (one-below c n q)

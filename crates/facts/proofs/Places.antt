@@ -13,7 +13,7 @@ use lib.Dec.{T, eqb, eqb→eq}
 use lib.IntN.{ℤ, pos, negsuc}
 use borrow.Author.Tests.{eq-eqb}
 use Rattle.rules.specs.Matrix.{Code, places, checks, entry, block, one}
-use Rattle.rules.proofs.Tests.{every-at, some-not, number-told}
+use Rattle.rules.proofs.Tests.{every-at, some-not, asBit-told}
 use Rattle.rules.proofs.Checks.{block-of, local-of, place-below, block-some, block-below}
 use Rattle.laws.proofs.Around.{around-back}
 use Rattle.facts.specs.Lines.{isNone, empty, noneEmpty}
@@ -27,13 +27,15 @@ pub has-one : (z x r t : ℕ) → (r + x) % z ≡ t → block z (pos x) r t ≡ 
 has-one z x r t e = rw (eq-eqb t ((r + x) % z) (sym e))
 
 pub where-one : (z x r t : ℕ) → block z (pos x) r t ≡ 1 → t ≡ (r + x) % z
-where-one z x r t e = eqb→eq t ((r + x) % z) (subst T (sym (ap (λ (n : ℕ). eqb n 1) e) ∙ number-told (eqb t ((r + x) % z))) tt)
+where-one z x r t e =
+    eqb→eq t ((r + x) % z) (subst T (sym (ap (λ (n : ℕ). eqb n 1) e) ∙ asBit-told (eqb t ((r + x) % z))) tt)
 
 is-turn : (a : ℤ) → T (not (isNone a)) → (x : ℕ) × (a ≡ pos x)
 is-turn (pos x) t = (x, refl)
 is-turn (negsuc n) t = absurd t
 
-pub line-turn : (c : Code) → T (noneEmpty c) → (j : ℕ) → j < c .columns → (i : ℕ) × (i < c .rows) × (x : ℕ) × (entry c i j ≡ pos x)
+pub line-turn : (c : Code) → T (noneEmpty c) → (j : ℕ) → j < c .columns
+    → (i : ℕ) × (i < c .rows) × (x : ℕ) × (entry c i j ≡ pos x)
 line-turn c u j h =
     let i = some-not (c .rows) (λ i. isNone (entry c i j)) (every-at (c .columns) (λ j. not (empty c j)) u j h) in
     let x = is-turn (entry c (i .0) j) (i .2) in

@@ -3,10 +3,11 @@
 --   isNone a             the entry a is -1, a zero block
 --   empty c j            all entries of line j are -1
 --   noneEmpty c          no line is empty
---   paired a b f         two entries of one row: f of them where both are turns; passed where neither is, failed where one is
+--   paired a b f         two entries of one row: f of them where both are turns; passed where neither is, failed where
+--                        one is
 --   rowByRow c j k f     the entries of lines j and k, paired in each row
 --   asFar z x y u v      it is as far from y to x, round a block of z, as from v to u
---   alike c j k          lines j and k have turns in the same rows, and all these turns are equally far apart
+--   linesAlike c j k     lines j and k have turns in the same rows, and all these turns are equally far apart
 --   noneAlike c          no two lines are alike
 --
 -- Nothing here is proved.
@@ -39,8 +40,8 @@ rowByRow c j k f = every (c .rows) (λ i. paired (entry c i j) (entry c i k) f)
 abbrev pub asFar : ℕ → ℕ → ℕ → ℕ → ℕ → Bool
 asFar z x y u v = eqb ((x + v) % z) ((u + y) % z)
 
-abbrev pub alike : Code → ℕ → ℕ → Bool
-alike c j k = rowByRow c j k (λ x y. rowByRow c j k (asFar (c .size) x y))
+abbrev pub linesAlike : Code → ℕ → ℕ → Bool
+linesAlike c j k = rowByRow c j k (λ x y. rowByRow c j k (asFar (c .size) x y))
 
 abbrev pub noneAlike : Code → Bool
-noneAlike c = every (c .columns) (λ k. every k (λ j. not (alike c j k)))
+noneAlike c = every (c .columns) (λ k. every k (λ j. not (linesAlike c j k)))

@@ -6,30 +6,32 @@ use mathlib.Core.List.{List}
 use native.Mathlib.Omega.{arith}
 use lib.Dec.{T, ltb, ltb→lt}
 use Rattle.rules.specs.Bits.{bit}
+use Rattle.rules.specs.Table.{fibre}
+use Rattle.rules.specs.Formats.{fibreFormat}
 use Rattle.rules.specs.Verdicts.{WordVerdict, LineVerdict}
 use Rattle.rules.specs.Refusals.{Refusal, tells, wordOrder, lineOrder}
-use Rattle.rules.specs.Promises.{refusal, judged, WordChecked, LineChecked}
+use Rattle.rules.specs.Promises.{refusalIn, judged, WordChecked, LineChecked}
 use Rattle.rules.specs.declared.Cause.the-variants.{Shortened, Check, Parity, Delimiter}
 use Rattle.rules.specs.declared.Verdict.{Verdict}
 use Rattle.rules.specs.declared.Verdict.the-variants.{Accepted, Rejected}
 use Rattle.rules.specs.declared.Judgement.{Judgement}
 use Rattle.rules.specs.declared.Judgement.the-variants.{Judged, Refused}
-use Rattle.laws.proofs.Told.{numbers, told-passes}
+use Rattle.laws.proofs.Told.{numbersPass, told-passes}
 use Rattle.laws.proofs.Judged.{count-range}
 use Rattle.host.specs.Numbers.{VerdictFits, JudgementFits}
 
 -- the number that an order tells is below 2^16, where each of its numbers is
-pub told-short : (o : List Refusal) → T (numbers (λ n. ltb n (2 ^ 16)) o) → (r : ℕ) → tells o r → r < 2 ^ 16
+pub told-short : (o : List Refusal) → T (numbersPass (λ n. ltb n (2 ^ 16)) o) → (r : ℕ) → tells o r → r < 2 ^ 16
 told-short o h r x = ltb→lt r (2 ^ 16) (told-passes (λ n. ltb n (2 ^ 16)) tt o h r x)
 
-word-verdict : (K : ℕ) (w : ℕ → ℕ) (v : Verdict) → WordVerdict K w v → VerdictFits v
+word-verdict : (K : ℕ) (w : ℕ → ℕ) (v : Verdict) → WordVerdict fibre K w v → VerdictFits v
 word-verdict K w Accepted h = tt
 word-verdict K w (Rejected (Shortened n)) h = omega (arith, h .0 .1)
-word-verdict K w (Rejected (Check n m)) h = (omega (arith, h .1 .0 .0), omega (arith, (count-range K w n m h) .1))
+word-verdict K w (Rejected (Check n m)) h = (omega (arith, h .1 .0 .0), omega (arith, (count-range fibre K w n m h) .1))
 word-verdict K w (Rejected (Parity n)) h = absurd h
 word-verdict K w (Rejected (Delimiter n)) h = absurd h
 
-line-verdict : (K : ℕ) (l : List ℕ) (d : ℕ) (v : Verdict) → LineVerdict K l d v → VerdictFits v
+line-verdict : (K : ℕ) (l : List ℕ) (d : ℕ) (v : Verdict) → LineVerdict fibreFormat K l d v → VerdictFits v
 line-verdict K l d Accepted h = tt
 line-verdict K l d (Rejected (Shortened n)) h = absurd (h .2)
 line-verdict K l d (Rejected (Check n m)) h = absurd (h .2)
@@ -38,16 +40,16 @@ line-verdict K l d (Rejected (Delimiter n)) h = omega (arith, h .2 .1 .0 .0)
 
 -- an answer fits where its verdict does, and its refusal is short
 answer-fits : (P : Verdict → Type 0) → ((v : Verdict) → P v → VerdictFits v) → (j : Judgement) → judged P j
-    → refusal j < 2 ^ 16 → JudgementFits j
+    → refusalIn j < 2 ^ 16 → JudgementFits j
 answer-fits P f (Judged v) h s = f v h
 answer-fits P f (Refused n) h s = (h, s)
 
-pub word-fits : (K : ℕ) (w : List ℕ) (j : Judgement) → WordChecked K w j → JudgementFits j
+pub word-fits : (K : ℕ) (w : List ℕ) (j : Judgement) → WordChecked fibreFormat K w j → JudgementFits j
 word-fits K w j x =
-    answer-fits (WordVerdict K (bit w)) (word-verdict K (bit w)) j (x .verdict)
-    (told-short (wordOrder K w) tt (refusal j) (x .told))
+    answer-fits (WordVerdict fibre K (bit w)) (word-verdict K (bit w)) j (x .verdict)
+    (told-short (wordOrder fibreFormat K w) tt (refusalIn j) (x .told))
 
-pub line-fits : (K : ℕ) (l : List ℕ) (d : ℕ) (j : Judgement) → LineChecked K l d j → JudgementFits j
+pub line-fits : (K : ℕ) (l : List ℕ) (d : ℕ) (j : Judgement) → LineChecked fibreFormat K l d j → JudgementFits j
 line-fits K l d j x =
-    answer-fits (LineVerdict K l d) (line-verdict K l d) j (x .verdict)
-    (told-short (lineOrder K l d) tt (refusal j) (x .told))
+    answer-fits (LineVerdict fibreFormat K l d) (line-verdict K l d) j (x .verdict)
+    (told-short (lineOrder fibreFormat K l d) tt (refusalIn j) (x .told))

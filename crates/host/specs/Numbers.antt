@@ -1,7 +1,7 @@
 -- The numbers that the C host is answered.
 --
---   causeNumber c       cause x 2^32 + count x 2^16 + place, with cause 1 shortened, 2 check, 3 parity, 4 delimiter; the count is that
---                       of failing rows, and 0 for the other causes
+--   causeNumber c       cause x 2^32 + count x 2^16 + place, with cause 1 shortened, 2 check, 3 parity, 4 delimiter;
+--                       the count is that of failing rows, and 0 for the other causes
 --   verdictNumber v     0 for accepted
 --   judgementNumber j   the refusal's number, or the verdict's
 --   JudgementFits j     its place and its count are below 2^16, as those of every word are; a refusal is 1 to 65,535
@@ -16,7 +16,8 @@ use mathlib.Core.Bool.{cond}
 use mathlib.Core.List.{List}
 use Prim.Native.Nat.{ℕ, _+_, _*_, _/_, _%_, _^_, _<_}
 use lib.Dec.{eqb, ltb}
-use Rattle.rules.specs.Promises.{number, Encoded, WordChecked, LineChecked}
+use Rattle.rules.specs.Formats.{fibreFormat}
+use Rattle.rules.specs.Promises.{refusalOf, Encoded, WordChecked, LineChecked}
 use Rattle.rules.specs.declared.Answer.{Answer}
 use Rattle.rules.specs.declared.Cause.{Cause}
 use Rattle.rules.specs.declared.Cause.the-variants.{Shortened, Check, Parity, Delimiter}
@@ -66,15 +67,15 @@ readBack r =
 
 pub record HostEncoded (K : ℕ) (u : List ℕ) (d : ℕ) (o : List ℕ) (r : ℕ) (o′ : List ℕ) : Type 0 where
   pub answer : Answer
-  pub encoded : Encoded K u d o answer o′
-  pub result : r ≡ number answer
+  pub encoded : Encoded fibreFormat K u d o answer o′
+  pub result : r ≡ refusalOf answer
 
 pub record HostWord (K : ℕ) (w : List ℕ) (r : ℕ) : Type 0 where
   pub judgement : Judgement
-  pub checked : WordChecked K w judgement
+  pub checked : WordChecked fibreFormat K w judgement
   pub result : r ≡ judgementNumber judgement
 
 pub record HostLine (K : ℕ) (l : List ℕ) (d r : ℕ) : Type 0 where
   pub judgement : Judgement
-  pub checked : LineChecked K l d judgement
+  pub checked : LineChecked fibreFormat K l d judgement
   pub result : r ≡ judgementNumber judgement

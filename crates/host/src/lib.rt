@@ -1,9 +1,9 @@
 // The C boundary: the bench host calls the encoder and both checks with numbers and byte slices only. The header
 // include/birdovesta.h says what the host answers for.
 ghost use mathlib.Core.Path.{_≡_};
-ghost use Rattle.host.specs.Numbers.{causeNumber, verdictNumber, judgementNumber, CauseFits, VerdictFits, JudgementFits};
-ghost use Rattle.host.specs.Numbers.{HostEncoded, HostWord, HostLine};
-ghost use Rattle.rules.specs.Promises.{number};
+ghost use Rattle.host.specs.Numbers.{causeNumber, verdictNumber, judgementNumber};
+ghost use Rattle.host.specs.Numbers.{CauseFits, VerdictFits, JudgementFits, HostEncoded, HostWord, HostLine};
+ghost use Rattle.rules.specs.Promises.{refusalOf};
 use rules::Answer;
 use rules::Cause;
 use rules::Judgement;
@@ -11,7 +11,7 @@ use rules::Verdict;
 
 // The number of an answer. The benchmark's calls, in `measured`, tell theirs by it too.
 pub fn answer_number(answer: Answer) -> u64
-    ensures { λ r. ⌜ r ≡ number answer ⌝ }
+    ensures { λ r. ⌜ r ≡ refusalOf answer ⌝ }
 {
     match answer {
         Answer::Done => 0,

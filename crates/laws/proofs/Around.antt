@@ -2,7 +2,8 @@
 --
 --   around-swap      two turns, the one or the other first
 --   around-cancel    what is added to both of two numbers can be left out
---   around-meet      where s + x and t + y come to the same, and s + u and t + v too, x and y are as far apart as u and v
+--   around-meet      where s + x and t + y come to the same, and s + u and t + v too, x and y are as far apart as u
+--                    and v
 --   around-back      there is a row from which x further on is column t
 use mathlib.Core.Path.{_≡_, sym, ap, ap₂, _∙_}
 use Prim.Native.Nat.{ℕ, suc, _+_, _-_, _*_, _%_, _<_}
@@ -26,7 +27,8 @@ module _ (z : ℕ) (some : 0 < z) where
       back : (a : ℕ) → ((a + k) % z + k * (z - 1)) % z ≡ a % z
       back a = mod-add-mod (a + k) z (k * (z - 1)) ∙ whole a k
 
-  pub around-meet : (s t x y u v : ℕ) → (s + x) % z ≡ (t + y) % z → (s + u) % z ≡ (t + v) % z → (x + v) % z ≡ (u + y) % z
+  pub around-meet : (s t x y u v : ℕ) → (s + x) % z ≡ (t + y) % z → (s + u) % z ≡ (t + v) % z
+      → (x + v) % z ≡ (u + y) % z
   around-meet s t x y u v e f =
       around-cancel (x + v) (u + y) (s + t)
       (ap (λ (n : ℕ). n % z) (omega arith)

@@ -1,4 +1,5 @@
--- Laws of bits in bytes: a bit read, a byte stored, a part of a list, a part replaced, and the bytes that hold given bits.
+-- Laws of bits in bytes: a bit read, a byte stored, a part of a list, a part replaced, and the bytes that hold given
+-- bits.
 --
 --   bit<                      a bit is below 2
 --   bit-past                  past the end of a list every bit is 0
@@ -151,7 +152,8 @@ numbers-same (suc n) x y hx hy b =
     numbers-same n (x / 2) (y / 2) (omega arith) (omega arith) (λ t h. simp halved at (b (suc t) (omega arith))) in
     omega arith
 
-pub bits-same : (s t : List ℕ) → Bytes s → Bytes t → length s ≡ length t → ((n : ℕ) → n < 8 * length s → bit s n ≡ bit t n) → s ≡ t
+pub bits-same : (s t : List ℕ) → Bytes s → Bytes t → length s ≡ length t
+    → ((n : ℕ) → n < 8 * length s → bit s n ≡ bit t n) → s ≡ t
 bits-same s t hs ht long b =
     ext-getD 0 s t long
     (λ i h. numbers-same 8 (getD s i 0) (getD t i 0) (hs i) (ht i)

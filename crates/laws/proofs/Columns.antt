@@ -7,6 +7,7 @@
 --   entry-none     an entry whose 16 bits are below 0 is that of a zero block
 --   entry-some     any other is its turn, and
 --   turn-fits      the cast to the turn loses nothing
+--   turn-proper    and the turn of a proper entry is below the block size
 --   check-column   a check of block j of a word alone is that column's term
 use borrow.Author.Tests.{ltb-true}
 use mathlib.Core.Path.{_≡_, refl, ap, _∙_}
@@ -15,7 +16,7 @@ use Prim.Native.Nat.{ℕ, _+_, _-_, _*_, _/_, _%_, _<_}
 use native.Mathlib.Nat.{mod-lt, not-suc-le-zero}
 use native.Mathlib.Decide.{decLt}
 use native.Mathlib.Omega.{arith}
-use lib.Dec.{T, lit<}
+use lib.Dec.{T, ltb→lt, lit<}
 use lib.IntN.{ℤ, pos, negsuc, natAbs}
 use lib.Signed.{ltZ, nonNeg}
 use mir.Facts.{toZ-ofZ, fits-natAbs}
@@ -23,12 +24,13 @@ use mir.Syntax.{w16, w64}
 use mir.Val.{SFits, Fits, toZ, ofZ}
 use Rattle.rules.specs.Bits.{zeros, placed}
 use Rattle.rules.specs.Matrix.{Code, entry, check}
-use Rattle.rules.specs.Terms.{spot, term}
+use Rattle.rules.specs.Terms.{proper, spot, through, term}
 use Rattle.rules.proofs.Sums.{total-one}
 use Rattle.rules.proofs.Checks.{place-below, check-columns}
 use Rattle.laws.proofs.Runs.{placed-below, placed-in, placed-above}
 
-pub spot-same : (z : ℕ) → 0 < z → (a : ℤ) (f g : ℕ → ℕ) (r : ℕ) → ((t : ℕ) → t < z → f t ≡ g t) → spot z a f r ≡ spot z a g r
+pub spot-same : (z : ℕ) → 0 < z → (a : ℤ) (f g : ℕ → ℕ) (r : ℕ) → ((t : ℕ) → t < z → f t ≡ g t)
+    → spot z a f r ≡ spot z a g r
 spot-same z h (pos a) f g r same = same ((r + a) % z) (mod-lt (r + a) h)
 spot-same z h (negsuc n) f g r same = refl
 
@@ -65,18 +67,25 @@ module _ {a e : ℤ} (fits : SFits w16 a) (same : a ≡ e) where
   pub entry-some : ltZ (told a) (pos 0) ≡ false → e ≡ pos (natAbs (told a))
   entry-some t = rw read (from-zero e (rw read at t) .1)
 
+pub turn-proper : (z : ℕ) {a : ℤ} {m : ℕ} → T (proper z a) → a ≡ pos m → m < z
+turn-proper z {a} {m} p e = ltb→lt m z (rw e at p)
+
 module _ (c : Code) (h : 0 < c .size) (n : ℕ) where
-  pub term-same : (x y : ℕ → ℕ) (j : ℕ) → ((t : ℕ) → t < c .size → x (c .size * j + t) ≡ y (c .size * j + t)) → term c n x j ≡ term c n y j
-  unfolding term
+  pub term-same : (x y : ℕ → ℕ) (j : ℕ) → ((t : ℕ) → t < c .size → x (c .size * j + t) ≡ y (c .size * j + t))
+      → term c n x j ≡ term c n y j
+  unfolding through entry
   term-same x y j same =
-      spot-same (c .size) h (entry c (n / c .size) j) (λ t. x (c .size * j + t)) (λ t. y (c .size * j + t)) (n % c .size) same
+      spot-same (c .size) h (entry c (n / c .size) j) (λ t. x (c .size * j + t)) (λ t. y (c .size * j + t))
+      (n % c .size) same
 
   pub term-below : (w : ℕ → ℕ) (j : ℕ) → ((t : ℕ) → w t < 2) → term c n w j < 2
-  unfolding term
-  term-below w j bits = spot-below (c .size) (entry c (n / c .size) j) (λ t. w (c .size * j + t)) (n % c .size) (λ t. bits (c .size * j + t))
+  unfolding through entry
+  term-below w j bits =
+      spot-below (c .size) (entry c (n / c .size) j) (λ t. w (c .size * j + t)) (n % c .size)
+      (λ t. bits (c .size * j + t))
 
   term-zeros : (x : ℕ → ℕ) (j : ℕ) → ((t : ℕ) → t < c .size → x (c .size * j + t) ≡ 0) → term c n x j ≡ 0
-  unfolding term
+  unfolding through entry
   term-zeros x j none = term-same x zeros j none ∙ spot-zeros (c .size) (entry c (n / c .size) j) (n % c .size)
 
 module _ (c : Code) (h : 0 < c .size) (w : ℕ → ℕ) (j : ℕ) where
@@ -85,7 +94,8 @@ module _ (c : Code) (h : 0 < c .size) (w : ℕ → ℕ) (j : ℕ) where
 
   elsewhere : (k t : ℕ) → t < c .size → (k ≡ j → ⊥) → blockAlone (c .size * k + t) ≡ 0
   elsewhere k t l d = elim (decLt k j) [
-    | yes b ↦ placed-below (c .size * j) (c .size) (λ t. w (c .size * j + t)) (c .size * k + t) (place-below (c .size) k j t b l)
+    | yes b ↦ placed-below (c .size * j) (c .size) (λ t. w (c .size * j + t)) (c .size * k + t)
+        (place-below (c .size) k j t b l)
     | no b ↦ placed-above (c .size * j) (c .size) (λ t. w (c .size * j + t)) (c .size * k + t)
         (omega (arith, place-below (c .size) j k (c .size - 1) (omega arith) (omega arith)))
   ]
@@ -99,5 +109,6 @@ module _ (c : Code) (h : 0 < c .size) (w : ℕ → ℕ) (j : ℕ) where
   check-column n l =
       check-columns c h n blockAlone
       ∙ ap (λ (s : ℕ). s % 2)
-      (total-one (c .columns) (term c n blockAlone) j l (λ k m d. term-zeros c h n blockAlone k (λ t q. elsewhere k t q d))
+      (total-one (c .columns) (term c n blockAlone) j l
+      (λ k m d. term-zeros c h n blockAlone k (λ t q. elsewhere k t q d))
       ∙ term-same c h n blockAlone w j here)

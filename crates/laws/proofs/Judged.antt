@@ -1,24 +1,27 @@
--- Laws of verdicts: any two that fit are equal, and how many rows may fail.
+-- Laws of verdicts: any two that fit are equal, and how many rows may fail. Any code, any format.
 --
 --   lowest-same     two numbers that are each the lowest are equal
 --   lowest-none     a lowest number is somewhere
 --   word-same       two verdicts on one full word are equal
---   count-range     where a check fails, 1 to 3,072 rows do
---   tail-same       two verdicts on one line word, beside one parity, are equal
---   judgement-same  two answers of a check are equal, if their refusals and their verdicts are
+--   count-range     where a check fails, 1 row does at least, and no more than there are
+--   tail-verdict    a verdict beside one parity is the verdict beside another with the same sent bits
+--   line-same       two verdicts on one line word are equal, where its parity's bits are single
 use mathlib.Core.Path.{_≡_, refl, sym, ap, _∙_}
 use mathlib.Core.List.{List}
 use Prim.Native.Nat.{ℕ, _≤_, _<_}
 use native.Mathlib.Decide.{decLt}
 use native.Mathlib.Omega.{arith}
 use lib.Dec.{eqb}
-use Rattle.rules.specs.Verdicts.{Lowest, Nowhere, ShortenedSet, Fails, rowFails, howMany, WordVerdict, ParityDiffers, DelimiterDiffers, TailVerdict}
-use Rattle.rules.specs.Promises.{refusal, judged}
-use Rattle.rules.specs.declared.Cause.the-variants.{Shortened, Check, Parity, Delimiter}
+use Rattle.rules.specs.Bits.{bit}
+use Rattle.rules.specs.Matrix.{Code, checks}
+use Rattle.rules.specs.Formats.{Format}
+use Rattle.rules.specs.Words.{padded, Parity}
+use Rattle.rules.specs.Verdicts.{Lowest, Nowhere, ShortenedSet, Fails, rowFails, howMany, WordVerdict}
+use Rattle.rules.specs.Verdicts.{ParityDiffers, DelimiterDiffers, TailVerdict, LineVerdict}
+use Rattle.rules.specs.declared.Cause.the-variants as cause
+use Rattle.rules.specs.declared.Cause.the-variants.{Shortened, Check, Delimiter}
 use Rattle.rules.specs.declared.Verdict.{Verdict}
 use Rattle.rules.specs.declared.Verdict.the-variants.{Accepted, Rejected}
-use Rattle.rules.specs.declared.Judgement.{Judgement}
-use Rattle.rules.specs.declared.Judgement.the-variants.{Judged, Refused}
 use Rattle.rules.proofs.Counting.{howMany-some, howMany-below}
 
 pub lowest-same : (P : ℕ → Type 0) (a b : ℕ) → Lowest P a → Lowest P b → a ≡ b
@@ -55,13 +58,13 @@ found-same P Q neither (first n) p q = lowest-none P n q (p .0)
 found-same P Q neither (second n) p q = lowest-none Q n (q .1) (p .1)
 found-same P Q neither neither p q = refl
 
-abbrev wordVerdict : (ℕ → ℕ) → Found → Verdict
-wordVerdict w (first n) = Rejected (Shortened n)
-wordVerdict w (second n) = Rejected (Check n (howMany 3072 (rowFails w)))
-wordVerdict w neither = Accepted
+abbrev wordVerdict : Code → (ℕ → ℕ) → Found → Verdict
+wordVerdict c w (first n) = Rejected (Shortened n)
+wordVerdict c w (second n) = Rejected (Check n (howMany (checks c) (rowFails c w)))
+wordVerdict c w neither = Accepted
 
 abbrev tailVerdict : Found → Verdict
-tailVerdict (first n) = Rejected (Parity n)
+tailVerdict (first n) = Rejected (cause.Parity n)
 tailVerdict (second n) = Rejected (Delimiter n)
 tailVerdict neither = Accepted
 
@@ -69,40 +72,58 @@ tailVerdict neither = Accepted
 abbrev Stands : (Found → Verdict) → (ℕ → Type 0) → (ℕ → Type 0) → Verdict → Type 0
 Stands name P Q v = (f : Found) × (v ≡ name f) × FirstOf P Q f
 
-stands-same : (name : Found → Verdict) (P Q : ℕ → Type 0) (v v′ : Verdict) → Stands name P Q v → Stands name P Q v′ → v ≡ v′
+stands-same : (name : Found → Verdict) (P Q : ℕ → Type 0) (v v′ : Verdict) → Stands name P Q v → Stands name P Q v′
+    → v ≡ v′
 stands-same name P Q v v′ a b = a .1 ∙ ap name (found-same P Q (a .0) (b .0) (a .2) (b .2)) ∙ sym (b .1)
 
-word-stands : (K : ℕ) (w : ℕ → ℕ) (v : Verdict) → WordVerdict K w v → Stands (wordVerdict w) (ShortenedSet K w) (Fails w) v
-word-stands K w Accepted p = (neither, refl, p)
-word-stands K w (Rejected (Shortened n)) p = (first n, refl, p)
-word-stands K w (Rejected (Check n m)) p = (second n, ap (λ (m : ℕ). Rejected (Check n m)) (p .2), (p .0, p .1))
-word-stands K w (Rejected (Parity n)) p = absurd p
-word-stands K w (Rejected (Delimiter n)) p = absurd p
+module _ (c : Code) (K : ℕ) (w : ℕ → ℕ) where
+  word-stands : (v : Verdict) → WordVerdict c K w v → Stands (wordVerdict c w) (ShortenedSet c K w) (Fails c w) v
+  word-stands Accepted p = (neither, refl, p)
+  word-stands (Rejected (Shortened n)) p = (first n, refl, p)
+  word-stands (Rejected (Check n m)) p = (second n, ap (λ (m : ℕ). Rejected (Check n m)) (p .2), (p .0, p .1))
+  word-stands (Rejected (cause.Parity n)) p = absurd p
+  word-stands (Rejected (Delimiter n)) p = absurd p
 
-tail-stands : (K : ℕ) (l : List ℕ) (d : ℕ) (p : List ℕ) (v : Verdict) → TailVerdict K l d p v
-    → Stands tailVerdict (ParityDiffers K l p) (DelimiterDiffers K l d) v
-tail-stands K l d p Accepted h = (neither, refl, h)
-tail-stands K l d p (Rejected (Shortened n)) h = absurd h
-tail-stands K l d p (Rejected (Check n m)) h = absurd h
-tail-stands K l d p (Rejected (Parity n)) h = (first n, refl, h)
-tail-stands K l d p (Rejected (Delimiter n)) h = (second n, refl, h)
+  pub word-same : (v v′ : Verdict) → WordVerdict c K w v → WordVerdict c K w v′ → v ≡ v′
+  word-same v v′ a b =
+      stands-same (wordVerdict c w) (ShortenedSet c K w) (Fails c w) v v′ (word-stands v a) (word-stands v′ b)
 
-pub word-same : (K : ℕ) (w : ℕ → ℕ) (v v′ : Verdict) → WordVerdict K w v → WordVerdict K w v′ → v ≡ v′
-word-same K w v v′ a b = stands-same (wordVerdict w) (ShortenedSet K w) (Fails w) v v′ (word-stands K w v a) (word-stands K w v′ b)
+  pub count-range : (n m : ℕ) → WordVerdict c K w (Rejected (Check n m)) → (0 < m) × (m ≤ checks c)
+  count-range n m p = (
+    rw (p .2) (howMany-some (checks c) (rowFails c w) n (p .1 .0 .0) (ap (λ (x : ℕ). eqb x 1) (p .1 .0 .1))),
+    rw (p .2) (howMany-below (checks c) (rowFails c w)),
+  )
 
-pub count-range : (K : ℕ) (w : ℕ → ℕ) (n m : ℕ) → WordVerdict K w (Rejected (Check n m)) → (0 < m) × (m ≤ 3072)
-count-range K w n m p = (
-  rw (p .2) (howMany-some 3072 (rowFails w) n (p .1 .0 .0) (ap (λ (x : ℕ). eqb x 1) (p .1 .0 .1))),
-  rw (p .2) (howMany-below 3072 (rowFails w)),
-)
+module _ (f : Format) (K : ℕ) (l : List ℕ) (d : ℕ) where
+  tail-stands : (p : List ℕ) (v : Verdict) → TailVerdict f K l d p v
+      → Stands tailVerdict (ParityDiffers f K l p) (DelimiterDiffers f K l d) v
+  tail-stands p Accepted h = (neither, refl, h)
+  tail-stands p (Rejected (Shortened n)) h = absurd h
+  tail-stands p (Rejected (Check n m)) h = absurd h
+  tail-stands p (Rejected (cause.Parity n)) h = (first n, refl, h)
+  tail-stands p (Rejected (Delimiter n)) h = (second n, refl, h)
 
-pub tail-same : (K : ℕ) (l : List ℕ) (d : ℕ) (p : List ℕ) (v v′ : Verdict) → TailVerdict K l d p v → TailVerdict K l d p v′ → v ≡ v′
-tail-same K l d p v v′ a b =
-    stands-same tailVerdict (ParityDiffers K l p) (DelimiterDiffers K l d) v v′ (tail-stands K l d p v a) (tail-stands K l d p v′ b)
+  tail-same : (p : List ℕ) (v v′ : Verdict) → TailVerdict f K l d p v → TailVerdict f K l d p v′ → v ≡ v′
+  tail-same p v v′ a b =
+      stands-same tailVerdict (ParityDiffers f K l p) (DelimiterDiffers f K l d) v v′ (tail-stands p v a)
+      (tail-stands p v′ b)
 
-pub judgement-same : (P : Verdict → Type 0) → ((v v′ : Verdict) → P v → P v′ → v ≡ v′) → (j j′ : Judgement)
-    → refusal j ≡ refusal j′ → judged P j → judged P j′ → j ≡ j′
-judgement-same P h (Judged v) (Judged v′) e p q = ap Judged (h v v′ p q)
-judgement-same P h (Judged v) (Refused n) e p q = absurd (omega arith)
-judgement-same P h (Refused n) (Judged v) e p q = absurd (omega arith)
-judgement-same P h (Refused n) (Refused m) e p q = ap Refused e
+  module _ (p q : List ℕ) (e : (n : ℕ) → n < f .sent → bit p n ≡ bit q n) where
+    there : (n : ℕ) → ParityDiffers f K l p n → ParityDiffers f K l q n
+    there n x = (x .0, λ g. x .1 (g ∙ sym (e n (x .0))))
+
+    back : (n : ℕ) → ParityDiffers f K l q n → ParityDiffers f K l p n
+    back n x = (x .0, λ g. x .1 (g ∙ e n (x .0)))
+
+    pub tail-verdict : (v : Verdict) → TailVerdict f K l d p v → TailVerdict f K l d q v
+    tail-verdict Accepted h = (λ n x. h .0 n (back n x), h .1)
+    tail-verdict (Rejected (cause.Parity n)) h = (there n (h .0), λ m k x. h .1 m k (back m x))
+    tail-verdict (Rejected (Delimiter n)) h = (λ m x. h .0 m (back m x), h .1)
+    tail-verdict (Rejected (Shortened n)) h = h
+    tail-verdict (Rejected (Check n m)) h = h
+
+  pub line-same : ((p q : List ℕ) → Parity (f .code) (padded K (bit l)) p → Parity (f .code) (padded K (bit l)) q
+      → (n : ℕ) → n < f .sent → bit p n ≡ bit q n)
+      → (v v′ : Verdict) → LineVerdict f K l d v → LineVerdict f K l d v′ → v ≡ v′
+  line-same one v v′ x y =
+      tail-same (y .0) v v′ (tail-verdict (x .0) (y .0) (one (x .0) (y .0) (x .1) (y .1)) v (x .2)) (y .2)

@@ -1,10 +1,12 @@
 pub mod Bits
 pub mod Runs
 pub mod Numbers
+pub mod Adds
 pub mod Around
 pub mod Columns
 pub mod Running
 pub mod Told
 pub mod Judged
-pub mod Passed
+pub mod Asked
 pub mod Tails
+pub mod Parities

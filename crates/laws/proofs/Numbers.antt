@@ -8,7 +8,8 @@
 --   digit-low       a number's n lowest digits are kept by mod 2 to the power n
 --   digit-kept      the n lowest digits, and no other
 --   digit-joined    a number of b bits, and m bits that another has at the places from b on, joined by an or
---   digit-across    the n digits from t on of two numbers of n digits, one after the other; the second moves by 1, then by n - 1 - t
+--   digit-across    the n digits from t on of two numbers of n digits, one after the other; the second moves by 1, then
+--                   by n - 1 - t
 --   ones-digits     the ones of a number of n bits are its n digits added up
 --   trailing-clear  the digits below the lowest 1 of a number's n lowest are 0
 --   trailing-set    and that one is 1, if it is there
@@ -74,7 +75,8 @@ digit-moved x s k = elim (decLt k s) [
 pub digit-left : (x s n k : ℕ) → k < n → digit ((x * 2 ^ s) % 2 ^ n) k ≡ run s zeros (digit x) k
 digit-left x s n k h = digit-low (x * 2 ^ s) n k h ∙ digit-moved x s k
 
-pub digit-left-2 : (x s r n k : ℕ) → k < n → digit ((x * 2 ^ s) % 2 ^ n * 2 ^ r % 2 ^ n) k ≡ run (r + s) zeros (digit x) k
+pub digit-left-2 : (x s r n k : ℕ) → k < n
+    → digit ((x * 2 ^ s) % 2 ^ n * 2 ^ r % 2 ^ n) k ≡ run (r + s) zeros (digit x) k
 digit-left-2 x s r n k h =
     digit-left ((x * 2 ^ s) % 2 ^ n) r n k h
     ∙ run-each r zeros (digit ((x * 2 ^ s) % 2 ^ n)) k (λ v. v ≡ run (r + s) zeros (digit x) k)
@@ -104,7 +106,8 @@ module _ (n low high t : ℕ) (small : low < 2 ^ n) (less : t < n) where
       (λ l. sym (run-low n (digit low) (digit high) (k + t) (omega arith)))
       (λ l. digit-high low n (k + t) small (omega arith))
 
-  second : (k : ℕ) → k < n → digit ((high * 2 ^ 1) % 2 ^ n * 2 ^ (n - 1 - t) % 2 ^ n) k ≡ placed (n - t) t (λ i. both (n - t + i)) k
+  second : (k : ℕ) → k < n
+      → digit ((high * 2 ^ 1) % 2 ^ n * 2 ^ (n - 1 - t) % 2 ^ n) k ≡ placed (n - t) t (λ i. both (n - t + i)) k
   unfolding both
   second k h =
       let e : n - 1 - t + 1 ≡ n - t = omega arith in

@@ -1,45 +1,38 @@
--- Laws of running checks.
+-- Laws of running checks: bytes to which the checks of words are added, over any code.
 --
---   added-none    a word of zeros adds nothing
---   added-then    two words added one after the other are their sum, added at once
---   added-join    so are b bits placed at h and the m bits after them: b + m bits
---   added-as      equal words add the same
---   added-same    the running checks after a word was added are single
-use mathlib.Core.Path.{_≡_, refl, sym, ap, _∙_}
+--   checks-as      equal words add the same checks
+--   checks-none    a word of zeros adds none
+--   checks-join    b bits placed at h, and then the m bits after them, add the checks of b + m bits
+--   checks-again   running checks that began as zeros have the checks of the word added
+use mathlib.Core.Path.{_≡_, _∙_}
 use mathlib.Core.List.{List}
-use Prim.Native.Nat.{ℕ, _+_, _%_, _<_}
+use Prim.Native.Nat.{ℕ, _+_, _<_}
 use native.Mathlib.Omega.{arith}
-use lib.ListN.{length}
-use Rattle.rules.specs.Bits.{bit, Bytes, zeros, placed, sum}
-use Rattle.rules.specs.Table.{fibre}
-use Rattle.rules.specs.Streams.{Added}
-use Rattle.rules.proofs.Checks.{check-same, check-zeros, check-sum}
-use Rattle.laws.proofs.Bits.{bit<, bits-same}
+use lib.ListN.{replicate}
+use Rattle.rules.specs.Bits.{bit, zeros, placed, sum, Adds}
+use Rattle.rules.specs.Matrix.{Code, places, check}
+use Rattle.rules.proofs.Checks.{check-below, check-same, check-zeros, check-sum}
+use Rattle.laws.proofs.Adds.{adds-as, adds-mod, adds-none, adds-then}
+use Rattle.laws.proofs.Bits.{bit-zeros}
 use Rattle.laws.proofs.Runs.{placed-bits, placed-join}
 
-pub added-as : {x y : ℕ → ℕ} {s t : List ℕ} → ((n : ℕ) → n < 17664 → x n ≡ y n) → Added x s t → Added y s t
-added-as {x} {y} {s} e a = record {
-  length-same = a .length-same;
-  each = λ n h. a .each n h ∙ ap (λ (v : ℕ). (bit s n + v) % 2) (check-same fibre n x y e);
-}
+module _ (c : Code) where
+  pub checks-as : {x y : ℕ → ℕ} {s t : List ℕ} → ((n : ℕ) → n < places c → x n ≡ y n) → Adds s t (λ n. check c n x)
+      → Adds s t (λ n. check c n y)
+  checks-as {x} {y} e a = adds-as (λ n. check-same c n x y e) a
 
-pub added-none : (x : ℕ → ℕ) (s : List ℕ) → ((n : ℕ) → n < 17664 → x n ≡ 0) → Added x s s
-added-none x s e = record {
-  length-same = refl;
-  each = λ n h. omega (arith, bit< s n, check-same fibre n x zeros e ∙ check-zeros fibre n);
-}
+  pub checks-none : (x : ℕ → ℕ) (s : List ℕ) → ((n : ℕ) → n < places c → x n ≡ 0) → Adds s s (λ n. check c n x)
+  checks-none x s e = adds-none s _ (λ n. check-same c n x zeros e ∙ check-zeros c n)
 
-pub added-then : {x y : ℕ → ℕ} {s t u : List ℕ} → Added x s t → Added y t u → Added (sum x y) s u
-added-then {x} {y} a b = record {
-  length-same = b .length-same ∙ a .length-same;
-  each = λ n h. omega (arith, a .each n h, b .each n h, check-sum fibre n x y);
-}
+  pub checks-join : (h b m : ℕ) (x : ℕ → ℕ) {s t u : List ℕ} → ((k : ℕ) → x k < 2)
+      → Adds s t (λ n. check c n (placed h b x)) → Adds t u (λ n. check c n (placed (h + b) m (λ k. x (b + k))))
+      → Adds s u (λ n. check c n (placed h (b + m) x))
+  checks-join h b m x bits p q =
+      let y = placed h b x in
+      let z = placed (h + b) m (λ k. x (b + k)) in
+      checks-as {x = sum y z} (λ n l. omega (arith, placed-join h b m x n, placed-bits h (b + m) x bits n))
+      (adds-mod (λ n. omega (arith, check-sum c n y z)) (adds-then p q))
 
-pub added-join : (h b m : ℕ) (x : ℕ → ℕ) {s t u : List ℕ} → ((k : ℕ) → x k < 2) → Added (placed h b x) s t
-    → Added (placed (h + b) m (λ k. x (b + k))) t u → Added (placed h (b + m) x) s u
-added-join h b m x bits p q = added-as (λ n l. omega (arith, placed-join h b m x n, placed-bits h (b + m) x bits n)) (added-then p q)
-
-pub added-same : (x : ℕ → ℕ) (s t u : List ℕ) → length s ≡ 384 → Bytes t → Bytes u → Added x s t → Added x s u → t ≡ u
-added-same x s t u l bt bu a b =
-    bits-same t u bt bu (a .length-same ∙ sym (b .length-same))
-    (λ n h. a .each n (omega (arith, a .length-same)) ∙ sym (b .each n (omega (arith, a .length-same))))
+  pub checks-again : (x : ℕ → ℕ) (k : ℕ) {s : List ℕ} → Adds (replicate k 0) s (λ n. check c n x) → (n : ℕ)
+      → bit s n ≡ check c n x
+  checks-again x k a n = a .each n ∙ omega (arith, bit-zeros k n, check-below c n x)

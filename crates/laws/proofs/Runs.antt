@@ -58,8 +58,10 @@ module _ (b : ℕ) (x y x′ y′ : ℕ → ℕ) where
 
 pub run-run : (h b : ℕ) (y : ℕ → ℕ) (n : ℕ) → run h zeros (run b zeros y) n ≡ run (h + b) zeros y n
 run-run h b y n =
-    run-each h zeros (run b zeros y) n (λ v. v ≡ run (h + b) zeros y n) (λ l. sym (run-low (h + b) zeros y n (omega arith)))
-    (λ l. run-each b zeros y (n - h) (λ v. v ≡ run (h + b) zeros y n) (λ k. sym (run-low (h + b) zeros y n (omega arith)))
+    run-each h zeros (run b zeros y) n (λ v. v ≡ run (h + b) zeros y n)
+    (λ l. sym (run-low (h + b) zeros y n (omega arith)))
+    (λ l. run-each b zeros y (n - h) (λ v. v ≡ run (h + b) zeros y n)
+    (λ k. sym (run-low (h + b) zeros y n (omega arith)))
     (λ k. ap y (omega arith) ∙ sym (run-high (h + b) zeros y n (omega arith))))
 
 module _ (h b : ℕ) (x : ℕ → ℕ) (n : ℕ) where
@@ -72,7 +74,8 @@ module _ (h b : ℕ) (x : ℕ → ℕ) (n : ℕ) where
   pub placed-above : h + b ≤ n → placed h b x n ≡ 0
   placed-above l = run-high h zeros (run b x zeros) n (omega arith) ∙ run-high b x zeros (n - h) (omega arith)
 
-  pub placed-each : (P : ℕ → Type 0) → (n < h → P 0) → (h ≤ n → n < h + b → P (x (n - h))) → (h + b ≤ n → P 0) → P (placed h b x n)
+  pub placed-each : (P : ℕ → Type 0) → (n < h → P 0) → (h ≤ n → n < h + b → P (x (n - h))) → (h + b ≤ n → P 0)
+      → P (placed h b x n)
   placed-each P below within above =
       run-each h zeros (run b x zeros) n P below
       (λ l. run-each b x zeros (n - h) P (λ k. within l (omega arith)) (λ k. above (omega arith)))
@@ -93,7 +96,8 @@ run-join b m x n =
     rw (run-low (b + m) x zeros n k, run-high b x zeros n l, e) (omega arith))
     (λ l. rw (run-high (b + m) x zeros n l, run-high b x zeros n (omega arith)))
 
-pub placed-join : (h b m : ℕ) (x : ℕ → ℕ) (n : ℕ) → placed h (b + m) x n ≡ placed h b x n + placed (h + b) m (λ t. x (b + t)) n
+pub placed-join : (h b m : ℕ) (x : ℕ → ℕ) (n : ℕ)
+    → placed h (b + m) x n ≡ placed h b x n + placed (h + b) m (λ t. x (b + t)) n
 placed-join h b m x n =
     run-same h zeros (run (b + m) x zeros) zeros _ (λ k l. refl) (run-join b m x) n
     ∙ run-sum h zeros (run b x zeros) zeros (placed b m (λ t. x (b + t))) n
@@ -103,9 +107,11 @@ pub placed-same : (h b : ℕ) (x y : ℕ → ℕ) → ((t : ℕ) → t < b → x
 placed-same h b x y e =
     run-same h zeros (run b x zeros) zeros (run b y zeros) (λ k l. refl) (run-same b x zeros y zeros e (λ k. refl))
 
-pub placed-whole : (h b : ℕ) (y : ℕ → ℕ) (n : ℕ) → (n < h → y n ≡ 0) → (h + b ≤ n → y n ≡ 0) → placed h b (λ t. y (h + t)) n ≡ y n
+pub placed-whole : (h b : ℕ) (y : ℕ → ℕ) (n : ℕ) → (n < h → y n ≡ 0) → (h + b ≤ n → y n ≡ 0)
+    → placed h b (λ t. y (h + t)) n ≡ y n
 placed-whole h b y n below above =
-    placed-each h b (λ t. y (h + t)) n (λ v. v ≡ y n) (λ l. sym (below l)) (λ l k. ap y (omega arith)) (λ l. sym (above l))
+    placed-each h b (λ t. y (h + t)) n (λ v. v ≡ y n) (λ l. sym (below l)) (λ l k. ap y (omega arith))
+    (λ l. sym (above l))
 
 pub placed-moved : (h w b : ℕ) (x : ℕ → ℕ) (n : ℕ) → placed h (w + b) (run w zeros x) n ≡ placed (h + w) b x n
 placed-moved h w b x n =

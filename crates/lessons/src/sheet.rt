@@ -10,6 +10,7 @@ use rules::Cause;
 use rules::Judgement;
 use rules::Stream;
 use rules::Verdict;
+use rules::fibre;
 
 fn is_done(answer: Answer) -> bool {
     match answer {
@@ -85,14 +86,14 @@ fn set_all(bytes: &mut [u8], places: &[usize]) {
 fn payload_place(place: usize, rows: &[usize]) -> bool {
     let mut payload = [0u8; 1799];
     set(&mut payload, place);
-    let step = stream::piece(stream::begin(), 14392, &payload);
-    let answer = step.answer;
+    let outcome = stream::piece(stream::begin(), fibre::PAYLOAD_MOST, &payload);
+    let answer = outcome.answer;
     if !is_done(answer) {
         return false;
     }
-    let later = step.stream;
+    let later = outcome.stream;
     let checks = later.checks;
-    let mut expected = [0u8; 384];
+    let mut expected = [0u8; rules::STREAM_BYTES];
     set_all(&mut expected, rows);
     check::same(&checks, &expected)
 }
@@ -100,32 +101,32 @@ fn payload_place(place: usize, rows: &[usize]) -> bool {
 // A sent parity place is in these checks, and in no other: of running checks with these rows alone, it is the sent
 // parity.
 fn parity_place(place: usize, rows: &[usize]) -> bool {
-    let mut checks = [0u8; 384];
+    let mut checks = [0u8; rules::STREAM_BYTES];
     set_all(&mut checks, rows);
     let held = Stream {
         held: 257,
         checks: checks,
     };
-    let mut tail = [255u8; 322];
-    let step = stream::finish(held, 0, &mut tail);
-    let answer = step.answer;
+    let mut tail = [255u8; fibre::TAIL_BYTES];
+    let outcome = stream::finish(held, 0, &mut tail);
+    let answer = outcome.answer;
     if !is_done(answer) {
         return false;
     }
-    let mut expected = [0u8; 322];
+    let mut expected = [0u8; fibre::TAIL_BYTES];
     set(&mut expected, place);
     check::same(&tail, &expected)
 }
 
 // What the check of a full word answers where it has only the bit at a place.
-fn only(place: usize, count: usize) -> Judgement {
-    let mut word = [0u8; 2208];
+fn check_only(place: usize, count: usize) -> Judgement {
+    let mut word = [0u8; fibre::WORD_BYTES];
     set(&mut word, place);
     word::check(count, &word)
 }
 
 fn all_zero() -> bool {
-    let word = [0u8; 2208];
+    let word = [0u8; fibre::WORD_BYTES];
     is_accepted(word::check(257, &word))
 }
 
@@ -147,7 +148,7 @@ fn least_payload() -> bool {
 fn bad_count(count: usize, number: usize) -> bool {
     let bytes = [0u8; 1800];
     let mut line = [0u8; 2122];
-    let mut word = [0u8; 2208];
+    let mut word = [0u8; fibre::WORD_BYTES];
     if !is_refused(line::encode(count, &bytes, 0, &mut line), number) {
         return false;
     }
@@ -170,11 +171,11 @@ fn unused_bit() -> bool {
 // A whole payload of 1,799 bytes, into the room there is.
 fn whole_payload(line: &mut [u8]) -> Answer {
     let payload = [255u8; 1799];
-    line::encode(14392, &payload, 0, line)
+    line::encode(fibre::PAYLOAD_MOST, &payload, 0, line)
 }
 
 fn room_enough() -> bool {
-    let mut line = [0u8; 2121];
+    let mut line = [0u8; fibre::LINE_BYTES];
     is_done(whole_payload(&mut line))
 }
 
@@ -186,8 +187,8 @@ fn room_too_short() -> bool {
 // What a stream with 14,392 bits held answers to a piece.
 fn full_then(count: usize, piece: &[u8]) -> Answer {
     let payload = [255u8; 1799];
-    let step = stream::piece(stream::begin(), 14392, &payload);
-    let later = step.stream;
+    let outcome = stream::piece(stream::begin(), fibre::PAYLOAD_MOST, &payload);
+    let later = outcome.stream;
     let last = stream::piece(later, count, piece);
     let answer = last.answer;
     answer
@@ -195,17 +196,17 @@ fn full_then(count: usize, piece: &[u8]) -> Answer {
 
 // What the finish of a stream answers.
 fn finish(stream: Stream, delimiter: usize) -> Answer {
-    let mut tail = [0u8; 322];
-    let step = stream::finish(stream, delimiter, &mut tail);
-    let answer = step.answer;
+    let mut tail = [0u8; fibre::TAIL_BYTES];
+    let outcome = stream::finish(stream, delimiter, &mut tail);
+    let answer = outcome.answer;
     answer
 }
 
 // A stream that holds one bit.
 fn one_held() -> Stream {
     let one = [0u8; 1];
-    let step = stream::piece(stream::begin(), 1, &one);
-    let later = step.stream;
+    let outcome = stream::piece(stream::begin(), 1, &one);
+    let later = outcome.stream;
     later
 }
 
@@ -232,16 +233,24 @@ fn places(tally: Tally) -> Tally {
 // Full words.
 fn words(tally: Tally) -> Tally {
     let a = lesson(tally, all_zero(), b"all 0, K 257");
-    let b = lesson(a, is_check(only(0, 257), 176, 6), b"only bit 0, K 257");
-    let c = lesson(b, is_shortened(only(257, 257), 257), b"only bit 257, K 257");
+    let b = lesson(
+        a,
+        is_check(check_only(0, 257), 176, 6),
+        b"only bit 0, K 257",
+    );
+    let c = lesson(
+        b,
+        is_shortened(check_only(257, 257), 257),
+        b"only bit 257, K 257",
+    );
     let d = lesson(
         c,
-        is_shortened(only(14392, 14392), 14392),
+        is_shortened(check_only(14392, 14392), 14392),
         b"only bit 14392, K 14392",
     );
     lesson(
         d,
-        is_check(only(14592, 257), 551, 3),
+        is_check(check_only(14592, 257), 551, 3),
         b"only bit 14592, K 257",
     )
 }

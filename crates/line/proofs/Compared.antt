@@ -29,8 +29,8 @@ module _ {x y : ℕ → ℕ} {b r : ℕ} (f : FirstDifference x y b r) where
   pub difference-none : b ≤ r → Nowhere (Differs x y b)
   difference-none h n d = d .1 (f .same n (omega (arith, d .0)))
 
-pub digits-differ : {x : ℕ → ℕ} {s : List ℕ} {r : ℕ} (d : ℕ) → d ≤ 1023 → s ≡ digitBytes d
-    → FirstDifference x (λ n. bit s (0 + n)) 10 r → FirstDifference x (digit d) 10 r
+pub digits-differ : {x : ℕ → ℕ} {s : List ℕ} {b r : ℕ} (d : ℕ) → b ≤ 16 → s ≡ digitBytes d
+    → FirstDifference x (λ n. bit s (0 + n)) b r → FirstDifference x (digit d) b r
 digits-differ d h e f =
     difference-as f (digit d)
-    (λ n l. let z : 0 + n ≡ n = omega arith in rw (z, e) (digits-right d n h l))
+    (λ n l. let z : 0 + n ≡ n = omega arith in rw (z, e) (digits-right d n (omega arith)))

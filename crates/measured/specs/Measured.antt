@@ -2,7 +2,7 @@
 --
 --   lent h c                 the stream that is lent: h bits held, and the running checks c
 --   Complete K w r w′        what measured_complete promises
---   Stepped r c′ P           P of a step of a stream, of which r is the number and c′ are the running checks
+--   Handed r c′ P           P of an outcome of a stream, of which r is the number and c′ are the running checks
 --   Piece h b s c r c′       what measured_piece promises; 65,536 and nothing written where c has not 384 bytes
 --   Finish h d c o r c′ o′   what measured_finish promises; the same there
 --
@@ -12,30 +12,33 @@ use mathlib.Core.Logic.{_⊎_}
 use mathlib.Core.List.{List}
 use Prim.Native.Nat.{ℕ}
 use lib.ListN.{length}
-use Rattle.rules.specs.Promises.{number, Completed, PieceTaken, Finished}
+use Rattle.rules.specs.Formats.{fibreFormat}
+use Rattle.rules.specs.Streams.{streamBytes}
+use Rattle.rules.specs.Promises.{refusalOf, Completed, PieceTaken, Finished}
 use Rattle.rules.specs.declared.Answer.{Answer}
 use Rattle.rules.specs.declared.Stream.{Stream}
-use Rattle.rules.specs.declared.Step.{Step}
+use Rattle.rules.specs.declared.Outcome.{Outcome}
 
 abbrev pub lent : ℕ → List ℕ → Stream
 lent h c = record { held = h; checks = c }
 
 pub record Complete (K : ℕ) (w : List ℕ) (r : ℕ) (w′ : List ℕ) : Type 0 where
   pub answer : Answer
-  pub completed : Completed K w answer w′
-  pub result : r ≡ number answer
+  pub completed : Completed fibreFormat K w answer w′
+  pub result : r ≡ refusalOf answer
 
-pub record Stepped (r : ℕ) (c′ : List ℕ) (P : Step → Type 0) : Type 0 where
-  pub step : Step
-  pub promised : P step
-  pub result : r ≡ number (step .answer)
-  pub checks : c′ ≡ step .stream .checks
+pub record Handed (r : ℕ) (c′ : List ℕ) (P : Outcome → Type 0) : Type 0 where
+  pub outcome : Outcome
+  pub promised : P outcome
+  pub result : r ≡ refusalOf (outcome .answer)
+  pub checks : c′ ≡ outcome .stream .checks
 
 abbrev pub Piece : ℕ → ℕ → List ℕ → List ℕ → ℕ → List ℕ → Type 0
 Piece h b s c r c′ =
-    ((length c ≡ 384 → ⊥) × (r ≡ 65536) × (c′ ≡ c)) ⊎ ((length c ≡ 384) × Stepped r c′ (PieceTaken b s (lent h c)))
+    ((length c ≡ streamBytes → ⊥) × (r ≡ 65536) × (c′ ≡ c)) ⊎
+    ((length c ≡ streamBytes) × Handed r c′ (PieceTaken fibreFormat b s (lent h c)))
 
 abbrev pub Finish : ℕ → ℕ → List ℕ → List ℕ → ℕ → List ℕ → List ℕ → Type 0
 Finish h d c o r c′ o′ =
-    ((length c ≡ 384 → ⊥) × (r ≡ 65536) × (c′ ≡ c) × (o′ ≡ o)) ⊎
-    ((length c ≡ 384) × Stepped r c′ (λ (t : Step). Finished d (lent h c) o t o′))
+    ((length c ≡ streamBytes → ⊥) × (r ≡ 65536) × (c′ ≡ c) × (o′ ≡ o)) ⊎
+    ((length c ≡ streamBytes) × Handed r c′ (λ (t : Outcome). Finished fibreFormat d (lent h c) o t o′))

@@ -5,32 +5,33 @@
 // number that no refusal has, and nothing is written. Where a piece is taken, the caller adds its bits to those held.
 ghost use mathlib.Core.Path.{_≡_};
 ghost use lib.ListN.{length};
+ghost use Rattle.rules.specs.Streams.{streamBytes};
 ghost use Rattle.measured.specs.Measured.{lent, Complete, Piece, Finish};
-ghost use Rattle.rules.specs.Promises.{number};
-use rules::Step;
+ghost use Rattle.rules.specs.Promises.{refusalOf};
+use rules::Outcome;
 use rules::Stream;
 
 // The answer where the running checks have not 384 bytes.
 const NO_CHECKS: u64 = 65536;
 
-// Writes the running checks of a step back, and tells its answer by number.
-fn hand_back(step: Step, checks: &mut [u8]) -> u64
-    requires { ⌜ length (now checks) ≡ 384 ⌝ }
-    ensures { λ r. ⌜ (r ≡ number (step .answer)) × (now (checks .exit) ≡ step .stream .checks) ⌝ }
+// Writes the running checks of an outcome back, and tells its answer by number.
+fn hand_back(outcome: Outcome, checks: &mut [u8]) -> u64
+    requires { ⌜ length (now checks) ≡ streamBytes ⌝ }
+    ensures { λ r. ⌜ (r ≡ refusalOf (outcome .answer)) × (now (checks .exit) ≡ outcome .stream .checks) ⌝ }
 {
-    let stream = step.stream;
+    let stream = outcome.stream;
     let next = stream.checks;
     bits::copy(checks, &next);
-    let answer = step.answer;
+    let answer = outcome.answer;
     host::answer_number(answer)
 }
 
 // The stream that is lent: these bits held, and these running checks.
 fn stream_of(held: usize, checks: &[u8]) -> Stream
-    requires { ⌜ length (now checks) ≡ 384 ⌝ }
+    requires { ⌜ length (now checks) ≡ streamBytes ⌝ }
     ensures { λ r. ⌜ r ≡ lent held (now (checks .entry)) ⌝ }
 {
-    let mut held_checks = [0u8; 384];
+    let mut held_checks = [0u8; rules::STREAM_BYTES];
     bits::copy(&mut held_checks, checks);
     Stream {
         held: held,
@@ -51,12 +52,12 @@ pub extern "C" fn measured_complete(count: usize, word: &mut [u8]) -> u64
 pub extern "C" fn measured_piece(held: usize, checks: &mut [u8], count: usize, bytes: &[u8]) -> u64
     ensures { λ r. ⌜ Piece held count (now (bytes .entry)) (now (checks .entry)) r (now (checks .exit)) ⌝ }
 {
-    if checks.len() != 384 {
+    if checks.len() != rules::STREAM_BYTES {
         return NO_CHECKS;
     }
     let stream = stream_of(held, checks);
-    let step = stream::piece(stream, count, bytes);
-    hand_back(step, checks)
+    let outcome = stream::piece(stream, count, bytes);
+    hand_back(outcome, checks)
 }
 
 // Finishes.
@@ -70,10 +71,10 @@ pub extern "C" fn measured_finish(
     ensures { λ r.
         ⌜ Finish held delimiter (now (checks .entry)) (now (tail .entry)) r (now (checks .exit)) (now (tail .exit)) ⌝ }
 {
-    if checks.len() != 384 {
+    if checks.len() != rules::STREAM_BYTES {
         return NO_CHECKS;
     }
     let stream = stream_of(held, checks);
-    let step = stream::finish(stream, delimiter, tail);
-    hand_back(step, checks)
+    let outcome = stream::finish(stream, delimiter, tail);
+    hand_back(outcome, checks)
 }

@@ -1,3 +1,2 @@
-pub mod AddsLaws
 pub mod Reading
 pub mod Storing

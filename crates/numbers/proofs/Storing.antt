@@ -18,15 +18,13 @@ use Prim.Native.Nat.{ℕ, _+_, _-_, _*_, _/_, _%_, _^_, _≤_, _<_}
 use native.Mathlib.Decide.{decLt, ℕ-discrete}
 use native.Mathlib.Omega.{arith}
 use lib.ListN.{length, set, length-set}
-use Rattle.rules.specs.Bits.{bit, zeros, placed, sum}
+use Rattle.rules.specs.Bits.{bit, zeros, placed, sum, Adds}
 use Rattle.rules.specs.Words.{digit}
 use Rattle.laws.proofs.Bits.{bit<, bit-set, bit-set-other}
 use Rattle.laws.proofs.Numbers.{digit-high, digit-right, digit-left, digit-low, digit-kept}
-use Rattle.laws.proofs.Runs.{run-low, run-high, placed-each, placed-none}
-use Rattle.laws.proofs.Runs.{placed-same, placed-moved, placed-fewer}
-use Rattle.numbers.specs.Adds.{Adds}
+use Rattle.laws.proofs.Runs.{run-low, run-high, placed-each, placed-none, placed-same, placed-moved, placed-fewer}
+use Rattle.laws.proofs.Adds.{adds-as, adds-join}
 use Rattle.numbers.specs.Numbers.{Holds, Replaced}
-use Rattle.numbers.proofs.AddsLaws.{adds-as, adds-join}
 
 pub replaced-byte : (s : List ℕ) (a i x : ℕ) → a + i < length s
     → Replaced s (set s (a + i) (x / 2 ^ (8 * i) % 2 ^ 8)) (a + i) 8 (λ k. digit x (8 * i + k))

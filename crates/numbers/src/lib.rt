@@ -4,10 +4,9 @@
 ghost use mathlib.Core.Path.{_≡_};
 ghost use Prim.Native.Nat.{_+_, _*_, _/_, _%_, _^_, _≤_, _<_};
 ghost use lib.ListN.{length};
-ghost use Rattle.rules.specs.Bits.{bit, run, placed};
+ghost use Rattle.rules.specs.Bits.{bit, run, placed, Adds};
 ghost use Rattle.rules.specs.Matrix.{total};
 ghost use Rattle.rules.specs.Words.{digit};
-ghost use Rattle.numbers.specs.Adds.{Adds};
 ghost use Rattle.numbers.specs.Numbers.{Holds, Replaced, LowestOne};
 
 fn wide(byte: u8) -> u64

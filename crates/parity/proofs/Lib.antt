@@ -1,4 +1,3 @@
 pub mod Recipe
 pub mod Solved
 pub mod Single
-pub mod Steps

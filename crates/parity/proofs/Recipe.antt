@@ -1,5 +1,5 @@
--- The recipe for the parity of the fibre code: 259 steps in groups, over 62 registers of 256 bits. Registers 0 to 11 hold the checks at the
--- start, and registers 12 to 23 the parity at the end.
+-- The recipe for the parity of the fibre code: 259 steps in groups, over 62 registers of a block's bits. Registers 0 to
+-- 11 hold the checks at the start, and registers 12 to 23 the parity at the end.
 --
 --   recipe    the groups
 use mathlib.Core.List.{List, [], _∷_}

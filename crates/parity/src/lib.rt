@@ -1,18 +1,23 @@
-// Parity: finds the one whose own checks are given, by a recipe.
-// Its functions serve the crates above, which show what they require; no user calls them.
+// Parity of the fibre code: finds the one whose own checks are given, by a recipe.
+// Its function serves the crates above, which show what it requires; no user calls it.
 ghost use mathlib.Core.Path.{_≡_};
-ghost use Prim.Native.Nat.{ℕ, _≤_, _<_};
-ghost use lib.ListN.{length, take, drop};
-ghost use Rattle.rules.specs.Bits.{bit};
+ghost use lib.ListN.{length};
+ghost use Rattle.rules.specs.Bits.{need};
+ghost use Rattle.rules.specs.Matrix as matrix;
+ghost use Rattle.rules.specs.Table.{fibre};
 ghost use Rattle.rules.specs.Words.{OwnChecks};
-ghost use Rattle.numbers.specs.Adds.{Adds};
-ghost use Rattle.parity.specs.Registers.{addend};
+use rules::fibre::PARITY_BYTES;
+use rules::fibre::SIZE;
+
+// The bytes of all 62 registers, each of a block's bits. The first ones hold the checks at the start.
+const REGISTER_BYTES: usize = 1984;
+
+// Where the registers end that hold the parity at the end: they come after those of the checks.
+const PARITY_END: usize = 768;
 
 // The recipe, a step to a line: its target, its source and its turn, two hexadecimal digits each.
 // 0x18_02_c6 reads: register 24 becomes register 24 plus register 2 turned by 198.
 // In base 256 the parts are read by shifts, and a step fits 32 bits.
-// There are 62 registers of 32 bytes. Registers 0 to 11 hold the checks at the start.
-// Registers 12 to 23 hold the parity at the end.
 const RECIPE: [u32; 259] = [
     0x18_06_00,
     0x18_01_0a,
@@ -275,35 +280,16 @@ const RECIPE: [u32; 259] = [
     0x0e_17_6a,
 ];
 
-// Adds a register, turned, to another.
-fn step(registers: &mut [u8], target: usize, source: usize, turn: usize)
-    requires { ⌜ (length (now registers) ≡ 1984) × (target < 62) × (source < 62) × (turn < 256) ⌝ }
-    ensures { λ r. ⌜ Adds (now (registers .entry)) (now (registers .exit)) (addend (now (registers .entry)) target source turn) ⌝ }
-{
-    turning::add_within(registers, 32 * target, 32 * source, turn);
-}
-
-// Follows the recipe: from checks, and zeros after them, to a parity that has these checks as its own.
-fn follow(registers: &mut [u8])
-    requires { ⌜ (length (now registers) ≡ 1984) × ((n : ℕ) → 3072 ≤ n → bit (now registers) n ≡ 0) ⌝ }
-    ensures { λ r. ⌜ OwnChecks (take 384 (now (registers .entry))) (take 384 (drop 384 (now (registers .exit)))) ⌝ }
-{
-    let recipe = RECIPE;
-    for k in 0..259 {
-        let parts = recipe[k] as usize;
-        let target = parts / 65536;
-        let source = parts / 256 % 256;
-        step(registers, target, source, parts % 256);
-    }
-}
-
 // Finds the parity whose own checks are the bits given.
 pub fn solve(checks: &[u8], parity: &mut [u8])
-    requires { ⌜ (length (now checks) ≡ 384) × (length (now parity) ≡ 384) ⌝ }
-    ensures { λ r. ⌜ OwnChecks (now (checks .entry)) (now (parity .exit)) ⌝ }
+    requires { ⌜
+        (length (now checks) ≡ need (matrix.checks fibre)) × (length (now parity) ≡ need (matrix.checks fibre))
+        ⌝ }
+    ensures { λ r. ⌜ OwnChecks fibre (now (checks .entry)) (now (parity .exit)) ⌝ }
 {
-    let mut registers = [0u8; 1984];
-    bits::copy(&mut registers[..384], checks);
-    follow(&mut registers);
-    bits::copy(parity, &registers[384..768]);
+    let mut registers = [0u8; REGISTER_BYTES];
+    bits::copy(&mut registers[..PARITY_BYTES], checks);
+    let recipe = RECIPE;
+    solving::follow(&mut registers, SIZE, &recipe);
+    bits::copy(parity, &registers[PARITY_BYTES..PARITY_END]);
 }

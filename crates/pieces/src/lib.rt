@@ -81,9 +81,9 @@ fn fed(feeding: Feeding, piece: usize, bits: usize, bytes: &[u8]) -> Feeding {
         return refused(feeding, piece, 2);
     }
     let stream = feeding.stream;
-    let step = stream::piece(stream, bits, bytes);
-    let answer = step.answer;
-    let later = step.stream;
+    let outcome = stream::piece(stream, bits, bytes);
+    let answer = outcome.answer;
+    let later = outcome.stream;
     match answer {
         Answer::Done => held(feeding, piece, later),
         Answer::Refused(number) => refused(feeding, piece, number),
@@ -130,9 +130,9 @@ fn feed_all(pieces: usize) -> Feeding
 fn finish(stream: Stream, delimiter: usize, known: Known, path: &[u8]) -> u8
     requires { ⌜ length (now path) ≤ 4091 ⌝ }
 {
-    let mut tail = [0u8; 322];
-    let step = stream::finish(stream, delimiter, &mut tail);
-    let answer = step.answer;
+    let mut tail = [0u8; rules::fibre::TAIL_BYTES];
+    let outcome = stream::finish(stream, delimiter, &mut tail);
+    let answer = outcome.answer;
     match answer {
         Answer::Done => outputs::write(known, path, &tail),
         Answer::Refused(number) => say::answer(Said::Refused(number)),

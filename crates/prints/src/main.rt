@@ -81,7 +81,7 @@ fn differs(i: usize, j: usize) -> u64
     requires { ⌜ (i < 12) × (j < 69) ⌝ }
     ensures { λ r. ⌜ r ≤ 1 ⌝ }
 {
-    let first = rules::entry_at(i, j);
+    let first = rules::fibre::entry_at(i, j);
     if SECOND[j][i] == first {
         return 0;
     }

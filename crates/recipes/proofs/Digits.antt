@@ -1,25 +1,26 @@
--- What the digits of a value say of its list of turns. Where the list is shorter than the base B, digit t of the value counts the turns
--- that are t; and a block that is turned by t twice is not there.
+-- What the digits of a value say of its list of turns. Where the list is shorter than the base B, digit t of the value
+-- counts the turns that are t; and a block that is turned by t twice is not there.
 --
 --   digits B n b v    of the n lowest digits of v the first is odd if b holds, and all the others are even
---   good B Z b v      a value and a count, v: the count is small, and the digits are those of the turn 0 (b holds) or of none
+--   good B Z b v      a value and a count, v: the count is small, and the digits are those of the turn 0 (b holds) or
+--                     of none
 --
 --   good-turned       of good numbers: a block turned so is the block itself, or nothing
 use mathlib.Core.Path.{_≡_, refl, sym, ap, ap₂, _∙_}
 use mathlib.Core.Bool.{Bool, true, false, not, cond}
 use mathlib.Core.List.{List, [], _∷_}
 use Prim.Native.Nat.{ℕ, zero, suc, _+_, _*_, _/_, _%_, _^_, _≤_, _<_, zero-le}
-use native.Mathlib.Nat.{zero-add, add-zero, zero-mul, one-mul, suc-mul, mul-comm, add-mul, pow-zero, pow-suc, pow-le-pow-right}
+use native.Mathlib.Nat.{zero-add, add-zero, zero-mul, one-mul, suc-mul, mul-comm, add-mul, pow-zero, pow-suc}
 use native.Mathlib.Nat.{add-mod, add-mod-mod, mod-lt, mod-eq-of-lt, div-eq-of-lt, div-add-mod', add-mul-div-right}
-use native.Mathlib.Nat.{mul-add-mod-self-left, add-mul-mod-self-right, mul-le-mul-right, lt-of-mul-lt-mul-right, lt-of-le-of-lt}
-use native.Mathlib.Nat.{not-suc-le-zero, le-of-suc-le-suc}
+use native.Mathlib.Nat.{mul-add-mod-self-left, add-mul-mod-self-right, mul-le-mul-right, lt-of-mul-lt-mul-right}
+use native.Mathlib.Nat.{pow-le-pow-right, lt-of-le-of-lt, not-suc-le-zero, le-of-suc-le-suc}
 use native.Mathlib.Omega.{arith}
 use lib.Dec.{T, eqb, ltb, eqb→eq, ltb→lt}
 use lib.ListN.{length}
 use lib.Pow.{pow-add}
 use Rattle.rules.proofs.Tests.{both, both-left, both-right}
 use Rattle.recipes.proofs.Sums.{_⊕_, xor-none, xor-twice, xor-assoc, xor-swap, sumOf}
-use Rattle.recipes.proofs.Turns.{turned}
+use Rattle.recipes.proofs.Turns.{turnedBy}
 use Rattle.recipes.proofs.Numbers.{value}
 
 abbrev pub digits : ℕ → ℕ → Bool → ℕ → Bool
@@ -55,7 +56,8 @@ lower (suc t ∷ ts) = t ∷ lower ts
 sumOf-lower : (f : ℕ → Bool) (ts : List ℕ) → sumOf f ts ≡ times (unturned ts) (f 0) ⊕ sumOf (λ t. f (suc t)) (lower ts)
 sumOf-lower f [] = refl
 sumOf-lower f (zero ∷ ts) =
-    ap (λ (x : Bool). f 0 ⊕ x) (sumOf-lower f ts) ∙ sym (xor-assoc (f 0) (times (unturned ts) (f 0)) (sumOf (λ u. f (suc u)) (lower ts)))
+    ap (λ (x : Bool). f 0 ⊕ x) (sumOf-lower f ts)
+    ∙ sym (xor-assoc (f 0) (times (unturned ts) (f 0)) (sumOf (λ u. f (suc u)) (lower ts)))
 sumOf-lower f (suc t ∷ ts) =
     ap (λ (x : Bool). f (suc t) ⊕ x) (sumOf-lower f ts)
     ∙ xor-swap (f (suc t)) (times (unturned ts) (f 0)) (sumOf (λ u. f (suc u)) (lower ts))
@@ -99,8 +101,8 @@ module _ (B : ℕ) where
       ∙ ap (λ (n : ℕ). n + value B (lower ts)) (div-eq-of-lt (lt-of-le-of-lt (unturned-le ts) h))
       ∙ zero-add (value B (lower ts))
 
-  sumOf-digits : (n : ℕ) (b : Bool) (ts : List ℕ) (f : ℕ → Bool) → length ts < B → Below n ts → T (digits B n b (value B ts))
-      → sumOf f ts ≡ cond b (f 0) false
+  sumOf-digits : (n : ℕ) (b : Bool) (ts : List ℕ) (f : ℕ → Bool) → length ts < B → Below n ts
+      → T (digits B n b (value B ts)) → sumOf f ts ≡ cond b (f 0) false
   sumOf-digits zero true ts f h l t = absurd t
   sumOf-digits zero false [] f h l t = refl
   sumOf-digits zero false (u ∷ ts) f h l t = absurd (not-suc-le-zero (l .0))
@@ -109,7 +111,8 @@ module _ (B : ℕ) where
       let rest = digits B n false (value B ts / B) in
       let odd = eqb→eq (unturned ts % 2) (cond b 1 0) (rw (lowest ts h) at (both-left first rest t)) in
       let even : T (digits B n false (value B (lower ts))) = rw (others ts h) at (both-right first rest t) in
-      let none = sumOf-digits n false (lower ts) (λ t. f (suc t)) (lt-of-le-of-lt (lower-le ts) h) (lower-below n ts l) even in
+      let few = lt-of-le-of-lt (lower-le ts) h in
+      let none = sumOf-digits n false (lower ts) (λ t. f (suc t)) few (lower-below n ts l) even in
       sumOf-lower f ts ∙ ap₂ _⊕_ (times-parity (unturned ts) (f 0) b odd) none ∙ xor-none (cond b (f 0) false)
 
 -- turns modulo Z: the block turned so, the count, and the value modulo B ^ Z - 1 stay
@@ -117,9 +120,9 @@ abbrev reduced : ℕ → List ℕ → List ℕ
 reduced Z [] = []
 reduced Z (t ∷ ts) = t % Z ∷ reduced Z ts
 
-turned-reduced : (Z : ℕ) (ts : List ℕ) (f : ℕ → Bool) (r : ℕ) → turned Z (reduced Z ts) f r ≡ turned Z ts f r
-turned-reduced Z [] f r = refl
-turned-reduced Z (t ∷ ts) f r = ap₂ _⊕_ (ap f (add-mod-mod r t Z)) (turned-reduced Z ts f r)
+turnedBy-reduced : (Z : ℕ) (ts : List ℕ) (f : ℕ → Bool) (r : ℕ) → turnedBy Z (reduced Z ts) f r ≡ turnedBy Z ts f r
+turnedBy-reduced Z [] f r = refl
+turnedBy-reduced Z (t ∷ ts) f r = ap₂ _⊕_ (ap f (add-mod-mod r t Z)) (turnedBy-reduced Z ts f r)
 
 length-reduced : (Z : ℕ) (ts : List ℕ) → length (reduced Z ts) ≡ length ts
 length-reduced Z [] = refl
@@ -148,7 +151,8 @@ module _ (B Z M : ℕ) (base : suc M ≡ B ^ Z) (some : 0 < Z) where
   value-reduced [] = refl
   value-reduced (t ∷ ts) =
       add-mod (B ^ (t % Z)) (value B (reduced Z ts)) M
-      ∙ ap₂ (λ (x y : ℕ). (x + y) % M) (sym (around (t / Z) (t % Z)) ∙ ap (λ (n : ℕ). B ^ n % M) (div-add-mod' t Z)) (value-reduced ts)
+      ∙ ap₂ (λ (x y : ℕ). (x + y) % M) (sym (around (t / Z) (t % Z)) ∙ ap (λ (n : ℕ). B ^ n % M) (div-add-mod' t Z))
+      (value-reduced ts)
       ∙ sym (add-mod (B ^ t) (value B ts) M)
 
   power-least : 0 < B → B ≤ B ^ Z
@@ -169,14 +173,15 @@ module _ (B Z M : ℕ) (base : suc M ≡ B ^ Z) (some : 0 < Z) where
       (lt-of-le-of-lt (value-bound B Z (omega arith) (reduced Z ts) (reduced-below Z some ts))
       (rw (length-reduced Z ts) (room (length ts) h)))
 
-  pub good-turned : (b : Bool) (ts : List ℕ) → T (good B Z b (value B ts % M, length ts)) → (f : ℕ → Bool) (r : ℕ) → r < Z
-      → turned Z ts f r ≡ cond b (f r) false
+  pub good-turned : (b : Bool) (ts : List ℕ) → T (good B Z b (value B ts % M, length ts)) → (f : ℕ → Bool) (r : ℕ)
+      → r < Z → turnedBy Z ts f r ≡ cond b (f r) false
   good-turned b ts t f r h =
       let few = ltb (suc (length ts)) B in
       let read = digits B Z b (value B ts % M) in
       let short = ltb→lt (suc (length ts)) B (both-left few read t) in
       let whole = sym (value-reduced ts) ∙ mod-eq-of-lt (value-small ts short) in
       let shown : T (digits B Z b (value B (reduced Z ts))) = rw whole at (both-right few read t) in
-      sym (turned-reduced Z ts f r)
-      ∙ sumOf-digits B Z b (reduced Z ts) (λ t. f ((r + t) % Z)) (omega (arith, length-reduced Z ts)) (reduced-below Z some ts) shown
+      sym (turnedBy-reduced Z ts f r)
+      ∙ sumOf-digits B Z b (reduced Z ts) (λ t. f ((r + t) % Z)) (omega (arith, length-reduced Z ts))
+      (reduced-below Z some ts) shown
       ∙ ap (λ (n : ℕ). cond b (f n) false) (ap (λ (n : ℕ). n % Z) (add-zero r) ∙ mod-eq-of-lt h)

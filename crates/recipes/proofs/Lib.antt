@@ -9,3 +9,4 @@ pub mod Blocks
 pub mod Solve
 pub mod Places
 pub mod Parity
+pub mod Steps

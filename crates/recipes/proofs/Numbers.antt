@@ -9,8 +9,8 @@
 use mathlib.Core.Path.{_≡_, refl, sym, ap, ap₂, _∙_}
 use mathlib.Core.List.{List, [], _∷_, _++_}
 use Prim.Native.Nat.{ℕ, zero, suc, _+_, _*_, _/_, _%_, _^_}
-use native.Mathlib.Nat.{zero-add, zero-mul, zero-mod, mul-zero, mul-one, add-assoc, add-mul, mul-add, mul-assoc, pow-zero, pow-suc}
-use native.Mathlib.Nat.{add-mod, mod-mod, mod-add-div, add-mul-mod-self-left}
+use native.Mathlib.Nat.{zero-add, zero-mul, zero-mod, mul-zero, mul-one, add-assoc, add-mul, mul-add, mul-assoc}
+use native.Mathlib.Nat.{pow-zero, pow-suc, add-mod, mod-mod, mod-add-div, add-mul-mod-self-left}
 use native.Mathlib.Omega.{arith}
 use lib.ListN.{length}
 use lib.Pow.{pow-add}
@@ -22,14 +22,19 @@ value B [] = 0
 value B (t ∷ ts) = B ^ t + value B ts
 
 abbrev pub numbers : ℕ → ℕ → Kind
-numbers B M = record { Of = ℕ × ℕ; none = (0, 0); plus = λ x y ts. ((x .0 + y .0 * value B ts) % M, x .1 + y .1 * length ts) }
+numbers B M = record {
+  Of = ℕ × ℕ;
+  none = (0, 0);
+  plus = λ x y ts. ((x .0 + y .0 * value B ts) % M, x .1 + y .1 * length ts);
+}
 
 abbrev pub Counts : ℕ → ℕ → ℕ → (ℕ → List ℕ) → ℕ × ℕ → Type 0
 Counts B M j x v = (value B (x j) % M ≡ v .0) × (length (x j) ≡ v .1)
 
 value-append : (B : ℕ) (ts us : List ℕ) → value B (ts ++ us) ≡ value B ts + value B us
 value-append B [] us = sym (zero-add (value B us))
-value-append B (t ∷ ts) us = ap (λ (n : ℕ). B ^ t + n) (value-append B ts us) ∙ sym (add-assoc (B ^ t) (value B ts) (value B us))
+value-append B (t ∷ ts) us =
+    ap (λ (n : ℕ). B ^ t + n) (value-append B ts us) ∙ sym (add-assoc (B ^ t) (value B ts) (value B us))
 
 value-later : (B a : ℕ) (ts : List ℕ) → value B (later a ts) ≡ value B ts * B ^ a
 value-later B a [] = sym (zero-mul (B ^ a))

@@ -1,7 +1,7 @@
 -- A recipe: steps that add one register, turned, to another. A register is a block of Z bits, for any Z.
 --
 --   Blocks            blocks of bits: bit r of block k
---   only m x          the first m blocks of x, and nothing after them
+--   leading m x       the first m blocks of x, and nothing after them
 --   Near Z n x y      x and y are the same in the first Z bits of the first n blocks
 --   Step, add d s a   a step: register d becomes register d plus register s turned by a
 --   step Z c x        the registers x after the step c
@@ -12,25 +12,23 @@
 --   sound n g         the group g stays within n registers, and adds none to itself
 --
 --   sound-apart       the two registers of a sound group are not the same
---   follow-more       the registers after one step more
 --   follow-append     the registers after steps and then more steps
 --   step-near         what a step makes of n registers is known from these registers
 --   follow-near       so is what sound groups make
 use mathlib.Core.Path.{_≡_, refl, ap₂}
 use mathlib.Core.Bool.{Bool, true, false, not, cond}
 use mathlib.Core.List.{List, [], _∷_, _++_}
-use Prim.Native.Nat.{ℕ, zero, suc, _+_, _%_, _<_}
-use native.Mathlib.Nat.{mod-lt, not-suc-le-zero, le-of-suc-le-suc}
+use Prim.Native.Nat.{ℕ, _+_, _%_, _<_}
+use native.Mathlib.Nat.{mod-lt}
 use lib.Dec.{T, eqb, ltb, ltb→lt}
-use lib.ListN.{length, getD, take}
 use Rattle.rules.proofs.Tests.{both, both-left, both-right, all}
 use Rattle.recipes.proofs.Sums.{_⊕_}
 
 abbrev pub Blocks : Type 0
 Blocks = ℕ → ℕ → Bool
 
-abbrev pub only : ℕ → Blocks → Blocks
-only m x k = cond (ltb k m) (x k) (λ r. false)
+abbrev pub leading : ℕ → Blocks → Blocks
+leading m x k = cond (ltb k m) (x k) (λ r. false)
 
 abbrev pub Near : ℕ → ℕ → Blocks → Blocks → Type 0
 Near Z n x y = (k r : ℕ) → k < n → r < Z → x k r ≡ y k r
@@ -70,12 +68,6 @@ sound-apart n d s ts t = unset (eqb s d) (both-right (both (ltb d n) (ltb s n)) 
     unset : (b : Bool) → T (not b) → b ≡ false
     unset true u = absurd u
     unset false u = refl
-
-pub follow-more : (Z : ℕ) (cs : List Step) (i : ℕ) (x : Blocks) → i < length cs
-    → follow Z (take (suc i) cs) x ≡ step Z (getD cs i (add 0 0 0)) (follow Z (take i cs) x)
-follow-more Z [] i x h = absurd (not-suc-le-zero h)
-follow-more Z (c ∷ cs) zero x h = refl
-follow-more Z (c ∷ cs) (suc i) x h = follow-more Z cs i (step Z c x) (le-of-suc-le-suc h)
 
 pub follow-append : (Z : ℕ) (cs ds : List Step) (x : Blocks) → follow Z (cs ++ ds) x ≡ follow Z ds (follow Z cs x)
 follow-append Z [] ds x = refl

@@ -1,5 +1,6 @@
--- Registers of any kind. A recipe, and a check, only ever add to one register another that is turned. So they can be followed on blocks of
--- bits, on lists of turns, and on numbers; and a relation between two kinds that adding keeps, a recipe keeps too.
+-- Registers of any kind. A recipe, and a check, only ever add to one register another that is turned. So they can be
+-- followed on blocks of bits, on lists of turns, and on numbers; and a relation between two kinds that adding keeps, a
+-- recipe keeps too.
 --
 --   Kind                what a register holds: a type, none of it, and plus x y ts: x, and y turned by each of ts
 --   at K g k            register k of the list g; a register past its end holds none
@@ -80,7 +81,8 @@ Uniform F =
     (K L : Kind) (S : K .Of → L .Of → Type 0) → Alike K L S → (g : List (K .Of)) (h : List (L .Of)) → Like K L S g h
     → Like K L S (F K g) (F L h)
 
-pub put-at : (K : Kind) (g : List (K .Of)) (d : ℕ) (x : K .Of) (k : ℕ) → at K (put K g d x) k ≡ cond (eqb k d) x (at K g k)
+pub put-at : (K : Kind) (g : List (K .Of)) (d : ℕ) (x : K .Of) (k : ℕ)
+    → at K (put K g d x) k ≡ cond (eqb k d) x (at K g k)
 put-at K [] zero x zero = refl
 put-at K [] zero x (suc k) = rw eqb·suc-zero
 put-at K [] (suc d) x zero = rw eqb·zero-suc
@@ -120,7 +122,8 @@ module _ {K L : Kind} {S : K .Of → L .Of → Type 0} (alike : Alike K L S) whe
       → (i : ℕ) → S (checked K e n g i) (checked L e n h i)
   checked-alike e zero g h l i = alike .at-none
   checked-alike e (suc n) g h l i =
-      enter-alike (e i n) (checked K e n g i) (at K g n) (checked L e n h i) (at L h n) (checked-alike e n g h l i) (l n)
+      enter-alike (e i n) (checked K e n g i) (at K g n) (checked L e n h i) (at L h n) (checked-alike e n g h l i)
+      (l n)
 
   listed-alike : (gs : List Group) (g : List (K .Of)) (h : List (L .Of)) → Like K L S g h
       → Like K L S (listed K gs g) (listed L gs h)
@@ -136,4 +139,5 @@ toChecks-uniform e m K L S alike g h l =
 
 pub toBlocks-uniform : (gs : List Group) (o : ℕ) → Uniform (toBlocks gs o)
 toBlocks-uniform gs o K L S alike g h l k =
-    rw (getD-drop o (listed K gs g) k (K .none), getD-drop o (listed L gs h) k (L .none)) (listed-alike alike gs g h l (o + k))
+    rw (getD-drop o (listed K gs g) k (K .none), getD-drop o (listed L gs h) k (L .none))
+    (listed-alike alike gs g h l (o + k))

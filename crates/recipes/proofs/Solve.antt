@@ -1,5 +1,5 @@
--- From the two computed tests to two laws: a recipe finds any blocks again from their checks; and it finds, for any checks, blocks that
--- have them.
+-- From the two computed tests to two laws: a recipe finds any blocks again from their checks; and it finds, for any
+-- checks, blocks that have them.
 --
 --   blocks-again         where every column of back passes, blocks are found again from their checks
 --   blocks-found         where every column of forth passes, the blocks found have the checks given
@@ -14,10 +14,10 @@ use lib.ListN.{length}
 use lib.Seq.{getD-drop}
 use Rattle.rules.proofs.Tests.{every, every-at, all}
 use Rattle.recipes.proofs.Sums.{xor-none, sums-same, sums-one}
-use Rattle.recipes.proofs.Recipe.{Blocks, only, follow, Group, flat, sound}
+use Rattle.recipes.proofs.Recipe.{Blocks, leading, follow, Group, flat, sound}
 use Rattle.recipes.proofs.Registers.{at, firsts, checked, listed, firsts-alike, Machine, Uniform}
 use Rattle.recipes.proofs.Registers.{toChecks, toBlocks, toChecks-uniform, toBlocks-uniform}
-use Rattle.recipes.proofs.Turns.{turned, blocks, rows, Spread, spread-alike}
+use Rattle.recipes.proofs.Turns.{turnedBy, blockKind, rows, Spread, spread-alike}
 use Rattle.recipes.proofs.Numbers.{value, numbers, Counts, counts-alike}
 use Rattle.recipes.proofs.Digits.{good, good-turned}
 use Rattle.recipes.proofs.Computed.{ownNumbers, startNumbers, column, backward, forward, back, forth}
@@ -39,7 +39,7 @@ forward-uniform : (m o : ℕ) (e : ℕ → ℕ → ℤ) (R : List Group) → Uni
 forward-uniform m o e R K L S alike g h l =
     toChecks-uniform e m K L S alike (toBlocks R o K g) (toBlocks R o L h) (toBlocks-uniform R o K L S alike g h l)
 
-own-turned : (Z : ℕ) (b : Bool) (f : ℕ → Bool) (r : ℕ) → r < Z → turned Z (own b) f r ≡ cond b (f r) false
+own-turned : (Z : ℕ) (b : Bool) (f : ℕ → Bool) (r : ℕ) → r < Z → turnedBy Z (own b) f r ≡ cond b (f r) false
 own-turned Z true f r h = xor-none (f ((r + 0) % Z)) ∙ ap f (ap (λ (n : ℕ). n % Z) (add-zero r) ∙ mod-eq-of-lt h)
 own-turned Z false f r h = refl
 
@@ -68,37 +68,38 @@ module _ (B Z M m : ℕ) (base : suc M ≡ B ^ Z) (above : 1 < M) (some : 0 < Z)
         (every-at m (λ k. good B Z (eqb k j) (at (numbers B M) (F (numbers B M) (startNumbers m j)) k))
         (every-at m (column B Z M m F) test j hj) k hk)
 
-    made-spread : (p : Blocks) (k : ℕ) → Spread Z m p (made k) (at (blocks Z) (F (blocks Z) (firsts m p)) k)
+    made-spread : (p : Blocks) (k : ℕ) → Spread Z m p (made k) (at (blockKind Z) (F (blockKind Z) (firsts m p)) k)
     made-spread p =
-        uniform rows (blocks Z) (Spread Z m p) (spread-alike Z m some p) (start m) (firsts m p)
+        uniform rows (blockKind Z) (Spread Z m p) (spread-alike Z m some p) (start m) (firsts m p)
         (firsts-alike (spread-alike Z m some p) m (λ k j. own (eqb k j)) p (own-spread Z m p))
 
-    same-again : (p : Blocks) (k r : ℕ) → k < m → r < Z → at (blocks Z) (F (blocks Z) (firsts m p)) k r ≡ p k r
+    same-again : (p : Blocks) (k r : ℕ) → k < m → r < Z → at (blockKind Z) (F (blockKind Z) (firsts m p)) k r ≡ p k r
     same-again p k r hk hr =
         sym (made-spread p k r hr)
         ∙ sums-same m _ _ (λ j hj. good-turned B Z M base some (eqb k j) (made k j) (made-good j k hj hk) (p j) r hr)
         ∙ sums-one m k (λ j. p j r) hk
 
   module _ (n o : ℕ) (e : ℕ → ℕ → ℤ) (R : List Group) (sounds : T (all (sound n) R)) where
-    found : (x : Blocks) (k : ℕ) → at (blocks Z) (toBlocks R o (blocks Z) (firsts m x)) k ≡ follow Z (flat R) (only m x) (o + k)
+    found : (x : Blocks) (k : ℕ)
+        → at (blockKind Z) (toBlocks R o (blockKind Z) (firsts m x)) k ≡ follow Z (flat R) (leading m x) (o + k)
     found x k =
-        getD-drop o (listed (blocks Z) R (firsts m x)) k (λ r. false)
+        getD-drop o (listed (blockKind Z) R (firsts m x)) k (λ r. false)
         ∙ ap (λ (y : Blocks). y (o + k)) (firsts-follow Z n m R sounds x)
 
     pub blocks-again : T (every m (back B Z M m o e R)) → (p : Blocks) (k r : ℕ) → k < m → r < Z
-        → follow Z (flat R) (only m (blockChecks Z e m p)) (o + k) r ≡ p k r
+        → follow Z (flat R) (leading m (blockChecks Z e m p)) (o + k) r ≡ p k r
     unfolding back
     blocks-again test p k r hk hr =
-        ap (λ (x : Blocks). follow Z (flat R) (only m x) (o + k) r) (sym (checked-blocks Z e m p))
-        ∙ ap (λ (f : ℕ → Bool). f r) (sym (found (checked (blocks Z) e m (firsts m p)) k))
+        ap (λ (x : Blocks). follow Z (flat R) (leading m x) (o + k) r) (sym (checked-blocks Z e m p))
+        ∙ ap (λ (f : ℕ → Bool). f r) (sym (found (checked (blockKind Z) e m (firsts m p)) k))
         ∙ same-again (backward m o e R) (backward-uniform m o e R) test p k r hk hr
 
     pub blocks-found : T (every m (forth B Z M m o e R)) → (s : Blocks) (i r : ℕ) → i < m → r < Z
-        → blockChecks Z e m (λ k. follow Z (flat R) (only m s) (o + k)) i r ≡ s i r
+        → blockChecks Z e m (λ k. follow Z (flat R) (leading m s) (o + k)) i r ≡ s i r
     unfolding forth
     blocks-found test s i r hi hr =
-        let g = toBlocks R o (blocks Z) (firsts m s) in
+        let g = toBlocks R o (blockKind Z) (firsts m s) in
         ap (λ (x : Blocks). blockChecks Z e m x i r) (fun-ext (λ k. sym (found s k)))
         ∙ sym (checked-own Z e m g i r)
-        ∙ ap (λ (f : ℕ → Bool). f r) (sym (firsts-own Z m (checked (blocks Z) e m g) i hi))
+        ∙ ap (λ (f : ℕ → Bool). f r) (sym (firsts-own Z m (checked (blockKind Z) e m g) i hi))
         ∙ same-again (forward m o e R) (forward-uniform m o e R) test s i r hi hr

@@ -61,7 +61,8 @@ sums-none (suc n) = xor-none (sums n (λ j. false)) ∙ sums-none n
 
 pub sums-plus : (n : ℕ) (f g : ℕ → Bool) → sums n (λ j. f j ⊕ g j) ≡ sums n f ⊕ sums n g
 sums-plus zero f g = refl
-sums-plus (suc n) f g = ap (λ (x : Bool). x ⊕ (f n ⊕ g n)) (sums-plus n f g) ∙ xor-four (sums n f) (sums n g) (f n) (g n)
+sums-plus (suc n) f g =
+    ap (λ (x : Bool). x ⊕ (f n ⊕ g n)) (sums-plus n f g) ∙ xor-four (sums n f) (sums n g) (f n) (g n)
 
 sums-past : (n k : ℕ) (f : ℕ → Bool) → n ≤ k → sums n (λ j. cond (eqb k j) (f j) false) ≡ false
 sums-past n k f h =
@@ -85,7 +86,8 @@ sumOf-append f [] us = refl
 sumOf-append f (t ∷ ts) us =
     ap (λ (x : Bool). f t ⊕ x) (sumOf-append f ts us) ∙ sym (xor-assoc (f t) (sumOf f ts) (sumOf f us))
 
-pub sumOf-sums : (n : ℕ) (f : ℕ → ℕ → Bool) (ts : List ℕ) → sumOf (λ t. sums n (f t)) ts ≡ sums n (λ j. sumOf (λ t. f t j) ts)
+pub sumOf-sums : (n : ℕ) (f : ℕ → ℕ → Bool) (ts : List ℕ)
+    → sumOf (λ t. sums n (f t)) ts ≡ sums n (λ j. sumOf (λ t. f t j) ts)
 sumOf-sums n f [] = sym (sums-none n)
 sumOf-sums n f (t ∷ ts) =
     ap (λ (x : Bool). sums n (f t) ⊕ x) (sumOf-sums n f ts) ∙ sym (sums-plus n (f t) (λ j. sumOf (λ u. f u j) ts))

@@ -1,6 +1,6 @@
 -- The unused high bits of the bytes s that hold b bits: all of them are in the last byte.
 --
---   unused-none     where b bits fill their bytes, none is unused
+--   unused-none     where s has no byte that b bits do not fill, none is unused
 --   unused-found    a 1 that is found in the last byte from bit b mod 8 on is an unused bit
 --   unused-clear    where none is found there, no unused bit is 1
 use mathlib.Core.Path.{_≡_, sym, _∙_}
@@ -14,12 +14,16 @@ use Rattle.laws.proofs.Bits.{bit-past, bit-part}
 use Rattle.bits.specs.Searches.{FirstSet}
 
 module _ (s : List ℕ) (b : ℕ) (l : length s ≡ need b) where
-  pub unused-none : b % 8 ≡ 0 → UnusedSet s b → ⊥
+  pub unused-none : length s ≤ b / 8 → UnusedSet s b → ⊥
   unused-none e u = omega (arith, bit-past s (u .0) (omega arith), u .2)
 
-  module _ (p : ℕ) (d : b % 8 ≡ 0 → ⊥) (f : FirstSet (take (length s - b / 8) (drop (b / 8) s)) (b % 8) 8 p) where
-    last : (t : ℕ) → t < 8 → bit (take (length s - b / 8) (drop (b / 8) s)) t ≡ bit s (8 * (b / 8) + t)
-    last t h = bit-part s (b / 8) (length s - b / 8) t (omega arith)
+  -- the part of s that is its last byte
+  abbrev end : List ℕ
+  end = take (b / 8 + 1 - b / 8) (drop (b / 8) s)
+
+  module _ {p : ℕ} (some : b / 8 < length s) (f : FirstSet end (b % 8) 8 p) where
+    last : (t : ℕ) → t < 8 → bit end t ≡ bit s (8 * (b / 8) + t)
+    last t h = bit-part s (b / 8) (b / 8 + 1 - b / 8) t (omega arith)
 
     pub unused-found : p < 8 → UnusedSet s b
     unused-found h = (8 * (b / 8) + p, omega (arith, f .low), sym (last p h) ∙ f .set h)

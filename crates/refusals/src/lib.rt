@@ -1,232 +1,206 @@
 // Paper 01, 'Refusal numbers', and W4 of paper 02.
-// A test for each refusal, which answers its number or 0, and each operation's order of tests.
+// A test for each kind of refusal, which answers its number or 0, and each operation's order of tests. A test is given
+// its limits. None needs an earlier one: where that tells a refusal, a later test may answer anything, and no more.
 ghost use mathlib.Core.Path.{_≡_};
+ghost use mathlib.Core.Logic.{_⊎_};
 ghost use mathlib.Core.List.{[], _∷_};
-ghost use Prim.Native.Nat.{ℕ, _+_, _*_, _≤_, _<_};
+ghost use Prim.Native.Nat.{ℕ, _+_, _≤_, _<_};
 ghost use lib.ListN.{length};
-ghost use Rattle.rules.specs.Bits.{need};
-ghost use Rattle.rules.specs.Refusals.{tells, badCount, wrongBytes, unusedSet, badDelimiter, noRoom};
-ghost use Rattle.rules.specs.Refusals.{tooManyWith, tooMany, someShortened, brokenBlock};
+ghost use Rattle.rules.specs.Bits.{bit, need};
+ghost use Rattle.rules.specs.Formats.{fibreFormat};
+ghost use Rattle.rules.specs.Refusals.{refusal, tells, unusedSet};
 ghost use Rattle.rules.specs.Refusals.{encodeOrder, pieceOrder, finishOrder, completeOrder, wordOrder, lineOrder};
+ghost use Rattle.rules.specs.Terms.{FirstTold};
+use rules::fibre;
 
-// 1: the count of payload bits is 0, or above 14,392.
-fn bad_count(count: usize) -> usize
-    ensures { λ r. ⌜ tells (badCount count ∷ []) r ⌝ }
+// The first of an order's numbers that is not 0; 0 where all are.
+fn first_told(numbers: &[usize]) -> usize
+    ensures { λ r. ⌜ FirstTold (now (numbers .entry)) r ⌝ }
 {
-    if count == 0 {
+    for i in 0..numbers.len() {
+        let number = numbers[i];
+        if number != 0 {
+            return number;
+        }
+    }
+    0
+}
+
+// A value that is above a limit: refusals 4, 5 and 7.
+fn above(value: usize, limit: usize, number: usize) -> usize
+    ensures { λ r. ⌜ tells (refusal number (limit < value) ∷ []) r ⌝ }
+{
+    if limit < value {
+        return number;
+    }
+    0
+}
+
+// A value that is another than it has to be: refusals 2 and 10.
+fn differs(value: usize, other: usize, number: usize) -> usize
+    ensures { λ r. ⌜ tells (refusal number (value ≡ other → ⊥) ∷ []) r ⌝ }
+{
+    if value != other {
+        return number;
+    }
+    0
+}
+
+// 1: a count that is below the least, or above the most.
+fn outside(count: usize, least: usize, most: usize) -> usize
+    ensures { λ r. ⌜ tells (refusal 1 ((count < least) ⊎ (most < count)) ∷ []) r ⌝ }
+{
+    if count < least {
         return 1;
     }
-    if 14392 < count {
+    if most < count {
         return 1;
     }
     0
 }
 
-// 2: the bytes given are not exactly the number that a run of so many bits takes.
-fn wrong_bytes(s: &[u8], count: usize) -> usize
-    ensures { λ r. ⌜ tells (wrongBytes (now (s .entry)) (need count) ∷ []) r ⌝ }
-{
-    if s.len() != bits::needed(count) {
-        return 2;
-    }
-    0
-}
-
-// 3: an unused high bit is 1. All of them are in the last byte.
+// 3: an unused high bit is 1. Where the bytes are as many as needed, all unused bits are in the last one, if it is not
+// filled.
 fn unused_set(s: &[u8], count: usize) -> usize
-    requires { ⌜ length (now s) ≡ need count ⌝ }
-    ensures { λ r. ⌜ tells (unusedSet (now (s .entry)) count ∷ []) r ⌝ }
+    ensures { λ r. ⌜ (length (now (s .entry)) ≡ need count → tells (unusedSet (now (s .entry)) count ∷ []) r) ⌝ }
 {
-    let used = count % 8;
-    if used == 0 {
+    let last = count / 8;
+    if s.len() <= last {
         return 0;
     }
-    let last = count / 8;
-    let place = bits::first_set(&s[last..], used, 8);
-    if place < 8 {
+    if bits::first_set(&s[last..last + 1], count % 8, 8) < 8 {
         return 3;
     }
     0
 }
 
-// 4: the delimiter is above 1,023.
-fn bad_delimiter(delimiter: usize) -> usize
-    ensures { λ r. ⌜ tells (badDelimiter delimiter ∷ []) r ⌝ }
+// 6: with b bits more, a stream would hold more than the most.
+fn above_with(held: usize, count: usize, most: usize) -> usize
+    ensures { λ r. ⌜ tells (refusal 6 (most < held + count) ∷ []) r ⌝ }
 {
-    if 1023 < delimiter {
-        return 4;
+    if most < held {
+        return 6;
     }
-    0
-}
-
-// 5: the output is shorter than needed.
-fn no_room(room: usize, count: usize) -> usize
-    ensures { λ r. ⌜ tells (noRoom room count ∷ []) r ⌝ }
-{
-    if room < bits::needed(count) {
-        return 5;
-    }
-    0
-}
-
-// 6: with b bits more, the stream would hold more than 14,392.
-fn too_many_with(held: usize, count: usize) -> usize
-    requires { ⌜ held ≤ 14392 ⌝ }
-    ensures { λ r. ⌜ tells (tooManyWith held count ∷ []) r ⌝ }
-{
-    if 14392 - held < count {
+    if most - held < count {
         return 6;
     }
     0
 }
 
-// 7: the stream claims more than 14,392 bits.
-fn too_many(held: usize) -> usize
-    ensures { λ r. ⌜ tells (tooMany held ∷ []) r ⌝ }
+// 8: a shortened place, from `count` on and before `end`, is 1. The word's bytes have all these places.
+fn shortened_set(count: usize, word: &[u8], end: usize) -> usize
+    ensures { λ r. ⌜
+        (need end ≤ length (now (word .entry))
+        → tells (refusal 8 ((n : ℕ) × ((count ≤ n) × (n < end) × (bit (now (word .entry)) n ≡ 1))) ∷ []) r)
+        ⌝ }
 {
-    if 14392 < held {
-        return 7;
+    if word.len() < bits::needed(end) {
+        return 0;
     }
-    0
-}
-
-// Where the payload places that so many bytes have end.
-fn payload_end(bytes: usize) -> usize
-    ensures { λ r. ⌜ (r ≤ 14592) × (r ≤ 8 * bytes) × ((n : ℕ) → n < 14592 → n < 8 * bytes → n < r) ⌝ }
-{
-    if 1824 <= bytes {
-        return 14592;
-    }
-    8 * bytes
-}
-
-// 8: a shortened place of the word is 1.
-fn shortened_set(count: usize, word: &[u8]) -> usize
-    ensures { λ r. ⌜ tells (someShortened count (now (word .entry)) ∷ []) r ⌝ }
-{
-    let end = payload_end(word.len());
     if end <= count {
         return 0;
     }
-    let place = bits::first_set(word, count, end);
-    if place < end {
+    if bits::first_set(word, count, end) < end {
         return 8;
     }
     0
 }
 
-// 10: the count of payload bits is not a multiple of 257.
-fn broken_block(count: usize) -> usize
-    ensures { λ r. ⌜ tells (brokenBlock count ∷ []) r ⌝ }
+// A count as it is, if it is not above the most: so that a sum with it does not wrap.
+fn lowered(count: usize, most: usize) -> usize
+    ensures { λ r. ⌜ (r ≤ most) × (count ≤ most → r ≡ count) ⌝ }
 {
-    if count % 257 != 0 {
-        return 10;
+    if count <= most {
+        return count;
     }
-    0
-}
-
-// The number that an order tells of two tests: the first one's, or else the later one's.
-fn earlier(first: usize, later: usize) -> usize
-    ensures { λ r. ⌜ (first ≡ 0 → r ≡ later) × ((first ≡ 0 → ⊥) → r ≡ first) ⌝ }
-{
-    if first != 0 {
-        return first;
-    }
-    later
+    most
 }
 
 // Encode: 1, 10, 2, 3, 4, 5.
 pub fn encode(count: usize, payload: &[u8], delimiter: usize, room: usize) -> usize
-    ensures { λ r. ⌜ tells (encodeOrder count (now (payload .entry)) delimiter room) r ⌝ }
+    ensures { λ r. ⌜ tells (encodeOrder fibreFormat count (now (payload .entry)) delimiter room) r ⌝ }
 {
-    let first = bad_count(count);
-    if first != 0 {
-        return first;
-    }
-    let tenth = broken_block(count);
-    if tenth != 0 {
-        return tenth;
-    }
-    let second = wrong_bytes(payload, count);
-    if second != 0 {
-        return second;
-    }
-    let third = unused_set(payload, count);
-    let fourth = bad_delimiter(delimiter);
-    let fifth = no_room(room, count + 2570);
-    earlier(third, earlier(fourth, fifth))
+    let line = lowered(count, fibre::PAYLOAD_MOST) + fibre::TAIL_BITS;
+    first_told(
+        &[
+            outside(count, fibre::PAYLOAD_LEAST, fibre::PAYLOAD_MOST),
+            differs(count % fibre::DATA_BLOCK, 0, 10),
+            differs(payload.len(), bits::needed(count), 2),
+            unused_set(payload, count),
+            above(delimiter, fibre::DELIMITER_MOST, 4),
+            above(bits::needed(line), room, 5),
+        ],
+    )
 }
 
 // Piece: 7, 2, 3, 6.
 pub fn piece(held: usize, count: usize, bytes: &[u8]) -> usize
-    ensures { λ r. ⌜ tells (pieceOrder held count (now (bytes .entry))) r ⌝ }
+    ensures { λ r. ⌜ tells (pieceOrder fibreFormat held count (now (bytes .entry))) r ⌝ }
 {
-    let seventh = too_many(held);
-    if seventh != 0 {
-        return seventh;
-    }
-    let second = wrong_bytes(bytes, count);
-    if second != 0 {
-        return second;
-    }
-    let third = unused_set(bytes, count);
-    let sixth = too_many_with(held, count);
-    earlier(third, sixth)
+    first_told(
+        &[
+            above(held, fibre::PAYLOAD_MOST, 7),
+            differs(bytes.len(), bits::needed(count), 2),
+            unused_set(bytes, count),
+            above_with(held, count, fibre::PAYLOAD_MOST),
+        ],
+    )
 }
 
 // Finish: 7, 1, 10, 4, 5.
 pub fn finish(held: usize, delimiter: usize, room: usize) -> usize
-    ensures { λ r. ⌜ tells (finishOrder held delimiter room) r ⌝ }
+    ensures { λ r. ⌜ tells (finishOrder fibreFormat held delimiter room) r ⌝ }
 {
-    let seventh = too_many(held);
-    let first = bad_count(held);
-    let tenth = broken_block(held);
-    let fourth = bad_delimiter(delimiter);
-    let fifth = no_room(room, 2570);
-    earlier(
-        seventh,
-        earlier(first, earlier(tenth, earlier(fourth, fifth))),
+    first_told(
+        &[
+            above(held, fibre::PAYLOAD_MOST, 7),
+            outside(held, fibre::PAYLOAD_LEAST, fibre::PAYLOAD_MOST),
+            differs(held % fibre::DATA_BLOCK, 0, 10),
+            above(delimiter, fibre::DELIMITER_MOST, 4),
+            above(fibre::TAIL_BYTES, room, 5),
+        ],
     )
 }
 
 // Complete: 1, 10, 2, 8.
 pub fn complete(count: usize, word: &[u8]) -> usize
-    ensures { λ r. ⌜ tells (completeOrder count (now (word .entry))) r ⌝ }
+    ensures { λ r. ⌜ tells (completeOrder fibreFormat count (now (word .entry))) r ⌝ }
 {
-    let first = bad_count(count);
-    let tenth = broken_block(count);
-    let second = wrong_bytes(word, 17664);
-    let eighth = shortened_set(count, word);
-    earlier(first, earlier(tenth, earlier(second, eighth)))
+    first_told(
+        &[
+            outside(count, fibre::PAYLOAD_LEAST, fibre::PAYLOAD_MOST),
+            differs(count % fibre::DATA_BLOCK, 0, 10),
+            differs(word.len(), bits::needed(fibre::PLACES), 2),
+            shortened_set(count, word, fibre::PAYLOAD_PLACES),
+        ],
+    )
 }
 
 // Full-word check: 1, 10, 2.
 pub fn check_word(count: usize, word: &[u8]) -> usize
-    ensures { λ r. ⌜ tells (wordOrder count (now (word .entry))) r ⌝ }
+    ensures { λ r. ⌜ tells (wordOrder fibreFormat count (now (word .entry))) r ⌝ }
 {
-    let first = bad_count(count);
-    let tenth = broken_block(count);
-    let second = wrong_bytes(word, 17664);
-    earlier(first, earlier(tenth, second))
+    first_told(
+        &[
+            outside(count, fibre::PAYLOAD_LEAST, fibre::PAYLOAD_MOST),
+            differs(count % fibre::DATA_BLOCK, 0, 10),
+            differs(word.len(), bits::needed(fibre::PLACES), 2),
+        ],
+    )
 }
 
 // Line check: 1, 10, 2, 3, 4.
 pub fn check_line(count: usize, line: &[u8], delimiter: usize) -> usize
-    ensures { λ r. ⌜ tells (lineOrder count (now (line .entry)) delimiter) r ⌝ }
+    ensures { λ r. ⌜ tells (lineOrder fibreFormat count (now (line .entry)) delimiter) r ⌝ }
 {
-    let first = bad_count(count);
-    if first != 0 {
-        return first;
-    }
-    let tenth = broken_block(count);
-    if tenth != 0 {
-        return tenth;
-    }
-    let second = wrong_bytes(line, count + 2570);
-    if second != 0 {
-        return second;
-    }
-    let third = unused_set(line, count + 2570);
-    let fourth = bad_delimiter(delimiter);
-    earlier(third, fourth)
+    let all = lowered(count, fibre::PAYLOAD_MOST) + fibre::TAIL_BITS;
+    first_told(
+        &[
+            outside(count, fibre::PAYLOAD_LEAST, fibre::PAYLOAD_MOST),
+            differs(count % fibre::DATA_BLOCK, 0, 10),
+            differs(line.len(), bits::needed(all), 2),
+            unused_set(line, all),
+            above(delimiter, fibre::DELIMITER_MOST, 4),
+        ],
+    )
 }

@@ -15,8 +15,8 @@
 use mathlib.Core.Path.{_≡_, refl, sym, ap, _∙_}
 use mathlib.Core.Bool.{cond}
 use Prim.Native.Nat.{ℕ, zero, suc, _+_, _*_, _/_, _%_, _<_}
-use native.Mathlib.Nat.{add-mod, mod-lt, mod-eq-of-lt, mul-one, mul-zero, zero-mul, one-mul, suc-mul, mul-suc, mul-add, mul-comm}
-use native.Mathlib.Nat.{mul-le-mul-left, div-lt-iff-lt-mul}
+use native.Mathlib.Nat.{add-mod, mod-lt, mod-eq-of-lt, mul-one, mul-zero, zero-mul, one-mul, suc-mul, mul-suc, mul-add}
+use native.Mathlib.Nat.{mul-comm, mul-le-mul-left, div-lt-iff-lt-mul}
 use native.Mathlib.Omega.{arith}
 use lib.Arith.{digits-div, digits-mod}
 use lib.Dec.{eqb, lit<}
@@ -24,8 +24,8 @@ use lib.IntN.{ℤ, pos, negsuc}
 use borrow.Author.Tests.{eq-eqb, ne-eqb}
 use Rattle.rules.specs.Bits.{zeros, only, sum}
 use Rattle.rules.specs.Matrix.{Code, places, entry, block, one, total, check}
-use Rattle.rules.specs.Terms.{spot, term}
-use Rattle.rules.proofs.Tests.{number-below}
+use Rattle.rules.specs.Terms.{spot, through, term}
+use Rattle.rules.proofs.Tests.{asBit-below}
 use Rattle.rules.proofs.Sums.{total-same, total-none, total-add, total-mod, total-one, total-blocks}
 
 pub block-of : (z j t : ℕ) → t < z → (z * j + t) / z ≡ j
@@ -53,11 +53,12 @@ block-total z h (pos a) r f =
 block-total z h (negsuc n) r f = total-none z (λ t. 0 * f t) (λ t l. zero-mul (f t))
 
 pub check-columns : (c : Code) → 0 < c .size → (n : ℕ) (w : ℕ → ℕ) → check c n w ≡ total (c .columns) (term c n w) % 2
-unfolding check term one
+unfolding check through entry one
 check-columns c h n w =
     ap (λ (s : ℕ). s % 2)
     (total-blocks (c .size) (c .columns) (λ p. one c n p * w p)
-    ∙ total-same (c .columns) (λ j. total (c .size) (λ t. one c n (c .size * j + t) * w (c .size * j + t))) (term c n w) (λ j l. column j))
+    ∙ total-same (c .columns) (λ j. total (c .size) (λ t. one c n (c .size * j + t) * w (c .size * j + t)))
+    (term c n w) (λ j l. column j))
   where
     column : (j : ℕ) → total (c .size) (λ t. one c n (c .size * j + t) * w (c .size * j + t)) ≡ term c n w j
     column j =
@@ -76,7 +77,9 @@ check-below c n w = mod-lt _ (lit< tt)
 pub check-same : (c : Code) (n : ℕ) (x y : ℕ → ℕ) → ((p : ℕ) → p < places c → x p ≡ y p) → check c n x ≡ check c n y
 unfolding check
 check-same c n x y h =
-    ap (λ (s : ℕ). s % 2) (total-same (places c) (λ p. one c n p * x p) (λ p. one c n p * y p) (λ p l. ap (λ (b : ℕ). one c n p * b) (h p l)))
+    ap (λ (s : ℕ). s % 2)
+    (total-same (places c) (λ p. one c n p * x p) (λ p. one c n p * y p)
+    (λ p l. ap (λ (b : ℕ). one c n p * b) (h p l)))
 
 pub check-zeros : (c : Code) (n : ℕ) → check c n zeros ≡ 0
 unfolding check
@@ -90,7 +93,8 @@ pub check-sum : (c : Code) (n : ℕ) (x y : ℕ → ℕ) → check c n (sum x y)
 unfolding check
 check-sum c n x y =
     sym (total-mod (places c) (λ p. one c n p * ((x p + y p) % 2)))
-    ∙ ap (λ (s : ℕ). s % 2) (total-same (places c) (λ p. one c n p * ((x p + y p) % 2) % 2) (λ p. (one c n p * x p + one c n p * y p) % 2)
+    ∙ ap (λ (s : ℕ). s % 2)
+    (total-same (places c) (λ p. one c n p * ((x p + y p) % 2) % 2) (λ p. (one c n p * x p + one c n p * y p) % 2)
     (λ p l. mul-mod (one c n p) (x p + y p) ∙ ap (λ (s : ℕ). s % 2) (mul-add (one c n p) (x p) (y p))))
     ∙ total-mod (places c) (λ p. one c n p * x p + one c n p * y p)
     ∙ ap (λ (s : ℕ). s % 2) (total-add (places c) (λ p. one c n p * x p) (λ p. one c n p * y p))
@@ -101,7 +105,7 @@ unfolding one
 one-below c n p = of (entry c (n / c .size) (p / c .size))
   where
     of : (a : ℤ) → block (c .size) a (n % c .size) (p % c .size) < 2
-    of (pos a) = number-below (eqb (p % c .size) ((n % c .size + a) % c .size))
+    of (pos a) = asBit-below (eqb (p % c .size) ((n % c .size + a) % c .size))
     of (negsuc k) = lit< tt
 
 pub only-at : (p : ℕ) → only p p ≡ 1

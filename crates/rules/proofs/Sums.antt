@@ -67,7 +67,9 @@ total-from m (suc n) f = rw (add-suc m n) (omega (arith, total-from m n f))
 pub total-blocks : (z m : ℕ) (f : ℕ → ℕ) → total (z * m) f ≡ total m (λ j. total z (λ t. f (z * j + t)))
 unfolding total
 total-blocks z zero f = rw (mul-zero z)
-total-blocks z (suc m) f = rw (mul-suc z m) (total-from (z * m) z f ∙ ap (λ (n : ℕ). n + total z (λ t. f (z * m + t))) (total-blocks z m f))
+total-blocks z (suc m) f =
+    rw (mul-suc z m)
+    (total-from (z * m) z f ∙ ap (λ (n : ℕ). n + total z (λ t. f (z * m + t))) (total-blocks z m f))
 
 pub total-more : (f : ℕ → ℕ) (n s : ℕ) → s ≡ total n f → s + f n ≡ total (n + 1) f
 unfolding total

@@ -1,4 +1,5 @@
--- Laws of computed tests: a test of two parts, of every element of a list, of every number below a bound, and a test as a number.
+-- Laws of computed tests: a test of two parts, of every element of a list, of every number below a bound, and a test
+-- as a number.
 --
 --   both a b        a and b
 --   all f xs        f of every element of xs
@@ -7,10 +8,10 @@
 --   all-at, all-in, every-at   what passes for all, passes for each
 --   every-of        what passes for each number below n, passes for every one
 --   some-not        where not every number below n passes, one of them fails
---   number b        the test b as a number: 1 where it passes, 0 where it fails
---   number-below    it is below 2
---   number-told     and tells the test
---   number-bit      a number below 2 is told by whether it is 1
+--   asBit b         the test b as a number: 1 where it passes, 0 where it fails
+--   asBit-below     it is below 2
+--   asBit-told      and tells the test
+--   asBit-bit       a number below 2 is told by whether it is 1
 use mathlib.Core.Path.{_≡_, refl}
 use mathlib.Core.Bool.{Bool, true, false, not, cond}
 use mathlib.Core.Logic.{_⊎_, inl, inr, ⊎-elim}
@@ -37,12 +38,14 @@ abbrev pub all : {A : Type 0} → (A → Bool) → List A → Bool
 all f [] = true
 all f (x ∷ xs) = both (f x) (all f xs)
 
-pub all-at : {A : Type 0} (f : A → Bool) (d : A) → T (f d) → (xs : List A) → T (all f xs) → (k : ℕ) → T (f (getD xs k d))
+pub all-at : {A : Type 0} (f : A → Bool) (d : A) → T (f d) → (xs : List A) → T (all f xs) → (k : ℕ)
+    → T (f (getD xs k d))
 all-at f d td [] t k = td
 all-at f d td (x ∷ xs) t zero = both-left (f x) (all f xs) t
 all-at f d td (x ∷ xs) t (suc k) = all-at f d td xs (both-right (f x) (all f xs) t) k
 
-pub all-in : {A : Type 0} (f : A → Bool) (d : A) (xs : List A) → T (all f xs) → (k : ℕ) → k < length xs → T (f (getD xs k d))
+pub all-in : {A : Type 0} (f : A → Bool) (d : A) (xs : List A) → T (all f xs) → (k : ℕ) → k < length xs
+    → T (f (getD xs k d))
 all-in f d [] t k h = absurd (not-suc-le-zero h)
 all-in f d (x ∷ xs) t zero h = both-left (f x) (all f xs) t
 all-in f d (x ∷ xs) t (suc k) h = all-in f d xs (both-right (f x) (all f xs) t) k (le-of-suc-le-suc h)
@@ -72,20 +75,21 @@ both-not false b t = inl tt
 pub some-not : (n : ℕ) (f : ℕ → Bool) → T (not (every n f)) → (k : ℕ) × (k < n) × T (not (f k))
 some-not zero f t = absurd t
 some-not (suc n) f t =
-    ⊎-elim (λ a. (n, omega arith, a)) (λ b. let k = some-not n f b in (k .0, omega (arith, k .1), k .2)) (both-not (f n) (every n f) t)
+    ⊎-elim (λ a. (n, omega arith, a)) (λ b. let k = some-not n f b in (k .0, omega (arith, k .1), k .2))
+    (both-not (f n) (every n f) t)
 
-abbrev pub number : Bool → ℕ
-number b = cond b 1 0
+abbrev pub asBit : Bool → ℕ
+asBit b = cond b 1 0
 
-pub number-below : (b : Bool) → number b < 2
-number-below true = lit< tt
-number-below false = lit< tt
+pub asBit-below : (b : Bool) → asBit b < 2
+asBit-below true = lit< tt
+asBit-below false = lit< tt
 
-pub number-told : (b : Bool) → eqb (number b) 1 ≡ b
-number-told true = refl
-number-told false = refl
+pub asBit-told : (b : Bool) → eqb (asBit b) 1 ≡ b
+asBit-told true = refl
+asBit-told false = refl
 
-pub number-bit : (a : ℕ) → a < 2 → number (eqb a 1) ≡ a
-number-bit zero h = refl
-number-bit (suc zero) h = refl
-number-bit (suc (suc a)) h = absurd (omega arith)
+pub asBit-bit : (a : ℕ) → a < 2 → asBit (eqb a 1) ≡ a
+asBit-bit zero h = refl
+asBit-bit (suc zero) h = refl
+asBit-bit (suc (suc a)) h = absurd (omega arith)

@@ -1,4 +1,5 @@
--- Paper 01, 'Bits in bytes': where a bit stands, how many bytes a run of bits takes, and runs of bits one after another.
+-- Paper 01, 'Bits in bytes': where a bit stands, how many bytes a run of bits takes, and runs of bits one after
+-- another.
 -- A run of bits is a function of the place, counted from 0.
 --
 --   bit s n          bit n of the bytes s: in byte n / 8, with weight 2 to the power n mod 8
@@ -11,6 +12,8 @@
 --   placed h b x     b bits of x at the places h to h + b - 1, and 0 elsewhere
 --   sum x y          the sum mod 2 of x and y, place by place
 --   Written b x s t  the first need b bytes of t hold the b bits of x, then zeros; all after them is as in s
+--   Packed b s       s is just the bytes of a run of b bits: as many as it takes, their unused high bits 0
+--   Adds s t f       t is s with f n added, mod 2, to bit n, for each n
 --
 -- Believe this file beside the paper; nothing here is proved.
 use mathlib.Core.Path.{_≡_}
@@ -51,3 +54,11 @@ pub record Written (b : ℕ) (x : ℕ → ℕ) (s t : List ℕ) : Type 0 where
   pub length-same : length t ≡ length s
   pub bits : (n : ℕ) → n < 8 * need b → bit t n ≡ run b x zeros n
   pub after : drop (need b) t ≡ drop (need b) s
+
+pub record Packed (b : ℕ) (s : List ℕ) : Type 0 where
+  pub bytes : length s ≡ need b
+  pub unused : UnusedSet s b → ⊥
+
+pub record Adds (s t : List ℕ) (f : ℕ → ℕ) : Type 0 where
+  pub length-same : length t ≡ length s
+  pub each : (n : ℕ) → bit t n ≡ (bit s n + f n) % 2

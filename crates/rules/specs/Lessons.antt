@@ -25,7 +25,7 @@ pub data Lesson : Type 0 where
 
 abbrev pub Right : Lesson → Type 0
 Right (place p ns) = checksOf fibre p ≡ ns
-Right (word w K v) = WordVerdict K w v
+Right (word w K v) = WordVerdict fibre K w v
 
 abbrev pub AllRight : List Lesson → Type 0
 AllRight [] = Unit

@@ -1,11 +1,12 @@
-pub mod Numbers
 pub mod Bits
 pub mod Matrix
 pub mod Table
+pub mod Formats
 pub mod Words
 pub mod Verdicts
 pub mod Streams
 pub mod Refusals
+pub mod Asked
 pub mod Promises
 pub mod Lessons
 pub mod Terms

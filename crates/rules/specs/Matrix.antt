@@ -1,8 +1,11 @@
--- Paper 01, 'The matrix': what an entry stands for, what a check is, and which checks a place lies in. Any block size, any table.
+-- Paper 01, 'The matrix': what an entry stands for, what a check is, and which checks a place lies in. Any block size,
+-- any table.
 --
---   Code              a block size, block rows, block columns, and a table: a line for each block column, an entry for each block row
+--   Code              a block size, block rows, block columns, and a table: a line for each block column, an entry for
+--                     each block row
 --   places c          the places of a full word
---   checks c          the checks
+--   checks c          the checks, and as many parity places, which come last
+--   payloadPlaces c   the places before them
 --   entry c i j       the entry of block row i, block column j, both from 0; -1 is a zero block
 --   block z a r t     local row r, local column t of the block of entry a: the identity moved right by a
 --   one c n p         row n, place p of the matrix: 1 or 0
@@ -15,7 +18,7 @@
 use mathlib.Core.Path.{_≡_}
 use mathlib.Core.Bool.{cond}
 use mathlib.Core.List.{List, [], _∷_, _++_}
-use Prim.Native.Nat.{ℕ, zero, suc, _+_, _*_, _/_, _%_, _<_}
+use Prim.Native.Nat.{ℕ, zero, suc, _+_, _-_, _*_, _/_, _%_, _<_}
 use lib.Dec.{eqb}
 use lib.IntN.{ℤ, pos, negsuc}
 use lib.ListN.{getD}
@@ -31,6 +34,9 @@ places c = c .size * c .columns
 
 abbrev pub checks : Code → ℕ
 checks c = c .size * c .rows
+
+abbrev pub payloadPlaces : Code → ℕ
+payloadPlaces c = c .size * (c .columns - c .rows)
 
 unfoldable pub entry : Code → ℕ → ℕ → ℤ
 entry c i j = getD (getD (c .table) j []) i (negsuc 0)

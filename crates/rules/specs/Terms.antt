@@ -1,15 +1,42 @@
--- A check by its block columns, for the contracts of inner functions. No promise of a public operation cites this file;
--- the law check-columns says that a check is the sum mod 2 of its terms.
+-- For the contracts of inner functions: a check by its block columns, and the first of some numbers. No promise of a
+-- public operation cites this file. The law check-columns says that a check is the sum mod 2 of its terms.
 --
+--   proper z a      the test of an entry, for blocks of z bits: it is -1, or a turn below z
+--   Proper z l      each entry of the line l passes it
 --   spot z a f r    what the block of entry a takes at local row r from its column's bits f
+--   through z l f n what a line l of the table adds to check n, from its column's bits f
 --   term c n w j    what block column j adds to check n of w
+--   firstOf xs      the first of the numbers xs that is not 0, or 0 where all are
+--   FirstTold xs r  r is that one
+use mathlib.Core.Path.{_≡_}
+use mathlib.Core.Bool.{Bool, cond}
+use mathlib.Core.List.{List, [], _∷_}
 use Prim.Native.Nat.{ℕ, _+_, _*_, _/_, _%_}
+use lib.Dec.{T, ltb, eqb}
 use lib.IntN.{ℤ, pos, negsuc}
-use Rattle.rules.specs.Matrix.{Code, entry}
+use lib.ListN.{getD}
+use Rattle.rules.specs.Matrix.{Code}
+
+abbrev pub proper : ℕ → ℤ → Bool
+proper z (pos a) = ltb a z
+proper z (negsuc n) = eqb n 0
+
+abbrev pub Proper : ℕ → List ℤ → Type 0
+Proper z l = (i : ℕ) → T (proper z (getD l i (negsuc 0)))
 
 abbrev pub spot : ℕ → ℤ → (ℕ → ℕ) → ℕ → ℕ
 spot z (pos a) f r = f ((r + a) % z)
 spot z (negsuc n) f r = 0
 
-unfoldable pub term : Code → ℕ → (ℕ → ℕ) → ℕ → ℕ
-term c n w j = spot (c .size) (entry c (n / c .size) j) (λ t. w (c .size * j + t)) (n % c .size)
+unfoldable pub through : ℕ → List ℤ → (ℕ → ℕ) → ℕ → ℕ
+through z l f n = spot z (getD l (n / z) (negsuc 0)) f (n % z)
+
+abbrev pub term : Code → ℕ → (ℕ → ℕ) → ℕ → ℕ
+term c n w j = through (c .size) (getD (c .table) j []) (λ t. w (c .size * j + t)) n
+
+unfoldable pub firstOf : List ℕ → ℕ
+firstOf [] = 0
+firstOf (x ∷ xs) = cond (eqb x 0) (firstOf xs) x
+
+pub record FirstTold (xs : List ℕ) (r : ℕ) : Type 0 where
+  pub same : r ≡ firstOf xs

@@ -1,18 +1,17 @@
--- The blocks of a word that reach the running checks, and what an entry of the table takes from one.
+-- The blocks of a word that reach the running checks, for blocks of z bits.
 --
---   blocks w a e   the blocks of the word w from block a on and below block e, at their places, and 0 elsewhere
---   taken w i j    what entry (i, j) takes from block j of w: 256 bits at the places of block row i
+--   HasBlocks z m s    the bytes s have m blocks, and a usize counts their places
+--   blocksOf z w a e   the blocks of the bytes w from block a on and below block e, at their places, and 0 elsewhere
 --
 -- Nothing here is proved.
 use mathlib.Core.List.{List}
-use Prim.Native.Nat.{ℕ, _+_, _-_, _*_}
+use Prim.Native.Nat.{ℕ, _+_, _-_, _*_, _^_, _≤_, _<_}
+use lib.ListN.{length}
 use Rattle.rules.specs.Bits.{bit, placed}
-use Rattle.rules.specs.Matrix.{entry}
-use Rattle.rules.specs.Table.{fibre}
-use Rattle.rules.specs.Terms.{spot}
 
-abbrev pub blocks : List ℕ → ℕ → ℕ → ℕ → ℕ
-blocks w a e = placed (256 * a) (256 * (e - a)) (λ t. bit w (256 * a + t))
+pub record HasBlocks (z m : ℕ) (s : List ℕ) : Type 0 where
+  pub bits : z * m ≤ 8 * length s
+  pub counted : z * m < 2 ^ 64
 
-abbrev pub taken : List ℕ → ℕ → ℕ → ℕ → ℕ
-taken w i j = placed (256 * i) 256 (spot 256 (entry fibre i j) (λ t. bit w (256 * j + t)))
+abbrev pub blocksOf : ℕ → List ℕ → ℕ → ℕ → ℕ → ℕ
+blocksOf z w a e = placed (z * a) (z * (e - a)) (λ t. bit w (z * a + t))

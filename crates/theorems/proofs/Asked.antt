@@ -1,17 +1,20 @@
--- Demand 1, in plain words: each operation is done, or gives a verdict, exactly where its inputs are what it asks.
+-- Demand 1, in plain words: each operation is done, or gives a verdict, exactly where its inputs are what it asks. Any
+-- format.
 --
---   X-free       what operation X asks is that no refusal of its order applies
---   X-exactly    so X is done, or gives a verdict, exactly then
-use mathlib.Core.Path.{_≡_, refl}
+--   X-free       where the inputs are what operation X asks, no refusal of its order applies
+--   X-exactly    X is done, or gives a verdict, exactly then
+use mathlib.Core.Path.{_≡_, ap}
 use mathlib.Core.Logic.{⊎-elim}
-use mathlib.Core.List.{List, [], _∷_}
-use Prim.Native.Nat.{ℕ, _%_, _≤_, _<_}
+use mathlib.Core.List.{List}
+use Prim.Native.Nat.{ℕ}
 use native.Mathlib.Omega.{arith}
-use lib.Dec.{T}
 use lib.ListN.{length}
-use Rattle.rules.specs.Words.{lineBits}
-use Rattle.rules.specs.Refusals.{Refusal, badCount, brokenBlock, badDelimiter, noRoom}
+use Rattle.rules.specs.Bits.{Packed}
+use Rattle.rules.specs.Formats.{Format}
+use Rattle.rules.specs.Refusals.{badCount, brokenBlock, wrongBytes, unusedSet}
 use Rattle.rules.specs.Refusals.{encodeOrder, pieceOrder, finishOrder, completeOrder, wordOrder, lineOrder}
+use Rattle.rules.specs.Asked.{WholeBlocks, EncodeAsks, CompleteAsks, PieceAsks, FinishAsks, WordAsks, LineAsks}
+use Rattle.rules.specs.Promises.{refusalOf, refusalIn}
 use Rattle.rules.specs.Promises.{Completed, WordChecked, Encoded, LineChecked, PieceTaken, Finished}
 use Rattle.rules.specs.declared.Answer.{Answer}
 use Rattle.rules.specs.declared.Answer.the-variants.{Done}
@@ -19,146 +22,86 @@ use Rattle.rules.specs.declared.Verdict.{Verdict}
 use Rattle.rules.specs.declared.Judgement.{Judgement}
 use Rattle.rules.specs.declared.Judgement.the-variants.{Judged}
 use Rattle.rules.specs.declared.Stream.{Stream}
-use Rattle.rules.specs.declared.Step.{Step}
-use Rattle.laws.proofs.Told.{numbered, refusal-of, not-refused, alike}
-use Rattle.laws.proofs.Passed.{encode-passed, piece-passed, finish-passed, complete-passed, word-passed, line-passed}
+use Rattle.rules.specs.declared.Outcome.{Outcome}
+use Rattle.laws.proofs.Asked.{encode-asked, complete-asked, piece-asked, finish-asked, word-asked, line-asked}
 use Rattle.theorems.specs.Exactly.{Exactly, Free}
-use Rattle.theorems.specs.Asked.{WholeBlocks, EncodeAsks, CompleteAsks, PieceAsks, FinishAsks, WordAsks, LineAsks}
-use Rattle.theorems.proofs.Refusing.{free-told, done-exactly, judged-exactly}
+use Rattle.theorems.proofs.Refusing.{done-exactly, judged-exactly}
 
-through : {A B C : Type 0} → Exactly A B → Exactly B C → Exactly A C
-through p q = (λ a. q .0 (p .0 a), λ c. p .1 (q .1 c))
+-- before any others, R, the refusals of bytes and of a payload's count do not apply
+packed-free : {b : ℕ} {s : List ℕ} {R : Type 0} → Packed b s → R
+    → (wrongBytes s b .applies → ⊥) × ((unusedSet s b .applies → ⊥) × R)
+packed-free p rest = (λ x. x (p .bytes), (p .unused, rest))
 
--- where no refusal of an order applies, the one numbered k does not
-unrefused : (o : List Refusal) → T (numbered o) → Free o → (k : ℕ) → refusal-of o k → ⊥
-unrefused o h f = not-refused o h refl (free-told o f)
+module _ (f : Format) where
+  count-free : {K : ℕ} {R : Type 0} → WholeBlocks f K → R
+      → (badCount f K .applies → ⊥) × ((brokenBlock f K .applies → ⊥) × R)
+  count-free w rest =
+      (⊎-elim (λ l. omega (arith, w .least)) (λ l. omega (arith, w .most)), (λ x. x (w .whole), rest))
 
--- the refusals of a payload's count do not apply to whole data blocks, and to every other count one does
-module _ (K : ℕ) where
-  whole : 0 < K → K ≤ 14392 → (brokenBlock K .applies → ⊥) → WholeBlocks K
-  whole some most unbroken = let m = alike (K % 257) 0 unbroken in (omega arith, most, m)
+  encode-free : (K : ℕ) (u : List ℕ) (d room : ℕ) → EncodeAsks f K u d room → Free (encodeOrder f K u d room)
+  encode-free K u d room a =
+      count-free (a .count)
+      (packed-free (a .payload) (λ x. omega (arith, a .delimiter), (λ x. omega (arith, a .fits), tt)))
 
-  good : WholeBlocks K → badCount K .applies → ⊥
-  good w x = ⊎-elim (λ e. omega (arith, w .0)) (λ l. omega (arith, w .1)) x
+  complete-free : (K : ℕ) (w : List ℕ) → CompleteAsks f K w → Free (completeOrder f K w)
+  complete-free K w a = count-free (a .count) (λ x. x (a .bytes), (λ x. a .shortened (x .0) (x .1), tt))
 
-  unbroken : WholeBlocks K → brokenBlock K .applies → ⊥
-  unbroken w x = x (w .2)
+  piece-free : (held b : ℕ) (s : List ℕ) → PieceAsks f held b s → Free (pieceOrder f held b s)
+  piece-free held b s a =
+      (λ x. omega (arith, a .most), packed-free (a .piece) (λ x. omega (arith, a .most), tt))
 
-module _ (K : ℕ) (u : List ℕ) (d room : ℕ) where
-  encode-free : Exactly (Free (encodeOrder K u d room)) (EncodeAsks K u d room)
-  encode-free = (there, back)
-    where
-      there : Free (encodeOrder K u d room) → EncodeAsks K u d room
-      there f =
-          let o = encodeOrder K u d room in
-          let p = encode-passed refl K u d room (free-told o f) in
-          record {
-            count = whole K (p .0) (p .1) (unrefused o tt f 10);
-            bytes = p .2;
-            unused = p .3;
-            delimiter = p .4;
-            fits = p .5;
-          }
+  finish-free : (held d room : ℕ) → FinishAsks f held d room → Free (finishOrder f held d room)
+  finish-free held d room a = (
+    λ x. omega (arith, a .count .most),
+    count-free (a .count) (λ x. omega (arith, a .delimiter), (λ x. omega (arith, a .fits), tt)),
+  )
 
-      back : EncodeAsks K u d room → Free (encodeOrder K u d room)
-      back a =
-          let last : Free (badDelimiter d ∷ noRoom room (lineBits K) ∷ []) =
-          (λ x. omega (arith, a .delimiter), (λ x. omega (arith, a .fits), tt)) in
-          (good K (a .count), (unbroken K (a .count), (λ x. x (a .bytes), (a .unused, last))))
+  pub word-free : (K : ℕ) (w : List ℕ) → WordAsks f K w → Free (wordOrder f K w)
+  word-free K w a = count-free (a .count) (λ x. x (a .bytes), tt)
 
-module _ (K : ℕ) (w : List ℕ) where
-  complete-free : Exactly (Free (completeOrder K w)) (CompleteAsks K w)
-  complete-free = (there, back)
-    where
-      there : Free (completeOrder K w) → CompleteAsks K w
-      there f =
-          let o = completeOrder K w in
-          let p = complete-passed refl K w (free-told o f) in
-          record { count = whole K (p .0) (p .1) (unrefused o tt f 10); bytes = p .2; shortened = λ n s. p .3 (n, s) }
+  pub line-free : (K : ℕ) (l : List ℕ) (d : ℕ) → LineAsks f K l d → Free (lineOrder f K l d)
+  line-free K l d a = count-free (a .count) (packed-free (a .line) (λ x. omega (arith, a .delimiter), tt))
 
-      back : CompleteAsks K w → Free (completeOrder K w)
-      back a = (good K (a .count), (unbroken K (a .count), (λ x. x (a .bytes), (λ x. a .shortened (x .0) (x .1), tt))))
+  pub encode-exactly : (K : ℕ) (u : List ℕ) (d : ℕ) (o : List ℕ) (a : Answer) (o′ : List ℕ) → Encoded f K u d o a o′
+      → Exactly (a ≡ Done) (EncodeAsks f K u d (length o))
+  encode-exactly K u d o a o′ x = (
+    λ e. encode-asked f (ap refusalOf e) K u d (length o) (x .told),
+    λ i. done-exactly (encodeOrder f K u d (length o)) tt a x .1 (encode-free K u d (length o) i),
+  )
 
-  pub word-free : Exactly (Free (wordOrder K w)) (WordAsks K w)
-  word-free = (there, λ a. (good K (a .count), (unbroken K (a .count), (λ x. x (a .bytes), tt))))
-    where
-      there : Free (wordOrder K w) → WordAsks K w
-      there f =
-          let o = wordOrder K w in
-          let p = word-passed refl K w (free-told o f) in
-          record { count = whole K (p .0) (p .1) (unrefused o tt f 10); bytes = p .2 }
+  pub complete-exactly : (K : ℕ) (w : List ℕ) (a : Answer) (w′ : List ℕ) → Completed f K w a w′
+      → Exactly (a ≡ Done) (CompleteAsks f K w)
+  complete-exactly K w a w′ x = (
+    λ e. complete-asked f (ap refusalOf e) K w (x .told),
+    λ i. done-exactly (completeOrder f K w) tt a x .1 (complete-free K w i),
+  )
 
-module _ (K : ℕ) (l : List ℕ) (d : ℕ) where
-  pub line-free : Exactly (Free (lineOrder K l d)) (LineAsks K l d)
-  line-free = (there, back)
-    where
-      there : Free (lineOrder K l d) → LineAsks K l d
-      there f =
-          let o = lineOrder K l d in
-          let p = line-passed refl K l d (free-told o f) in
-          record { count = whole K (p .0) (p .1) (unrefused o tt f 10); bytes = p .2; unused = p .3; delimiter = p .4 }
+  pub piece-exactly : (b : ℕ) (s : List ℕ) (t : Stream) (r : Outcome) → PieceTaken f b s t r
+      → Exactly (r .answer ≡ Done) (PieceAsks f (t .held) b s)
+  piece-exactly b s t r x = (
+    λ e. piece-asked f (ap refusalOf e) (t .held) b s (x .told),
+    λ i. done-exactly (pieceOrder f (t .held) b s) tt (r .answer) x .1 (piece-free (t .held) b s i),
+  )
 
-      back : LineAsks K l d → Free (lineOrder K l d)
-      back a = (
-        good K (a .count),
-        (unbroken K (a .count), (λ x. x (a .bytes), (a .unused, (λ x. omega (arith, a .delimiter), tt)))),
-      )
+  pub finish-exactly : (d : ℕ) (t : Stream) (o : List ℕ) (r : Outcome) (o′ : List ℕ) → Finished f d t o r o′
+      → Exactly (r .answer ≡ Done) (FinishAsks f (t .held) d (length o))
+  finish-exactly d t o r o′ x = (
+    λ e. finish-asked f (ap refusalOf e) (t .held) d (length o) (x .told),
+    λ i.
+        done-exactly (finishOrder f (t .held) d (length o)) tt (r .answer) x .1
+        (finish-free (t .held) d (length o) i),
+  )
 
-piece-free : (held b : ℕ) (s : List ℕ) → Exactly (Free (pieceOrder held b s)) (PieceAsks held b s)
-piece-free held b s = (there, back)
-  where
-    there : Free (pieceOrder held b s) → PieceAsks held b s
-    there f =
-        let p = piece-passed refl held b s (free-told (pieceOrder held b s) f) in
-        record { bytes = p .0; unused = p .1; most = p .2 }
+  pub word-exactly : (K : ℕ) (w : List ℕ) (j : Judgement) → WordChecked f K w j
+      → Exactly ((v : Verdict) × (j ≡ Judged v)) (WordAsks f K w)
+  word-exactly K w j x = (
+    λ e. word-asked f (ap refusalIn (e .1)) K w (x .told),
+    λ i. judged-exactly (wordOrder f K w) tt j x .1 (word-free K w i),
+  )
 
-    back : PieceAsks held b s → Free (pieceOrder held b s)
-    back a = (λ x. omega (arith, a .most), (λ x. x (a .bytes), (a .unused, (λ x. omega (arith, a .most), tt))))
-
-finish-free : (held d room : ℕ) → Exactly (Free (finishOrder held d room)) (FinishAsks held d room)
-finish-free held d room = (there, back)
-  where
-    there : Free (finishOrder held d room) → FinishAsks held d room
-    there f =
-        let o = finishOrder held d room in
-        let p = finish-passed refl held d room (free-told o f) in
-        record { count = whole held (p .0) (p .1) (unrefused o tt f 10); delimiter = p .2; fits = p .3 }
-
-    back : FinishAsks held d room → Free (finishOrder held d room)
-    back a = (
-      λ x. omega (arith, a .count .1),
-      (
-        good held (a .count),
-        (unbroken held (a .count), (λ x. omega (arith, a .delimiter), (λ x. omega (arith, a .fits), tt))),
-      ),
-    )
-
-pub encode-exactly : (K : ℕ) (u : List ℕ) (d : ℕ) (o : List ℕ) (a : Answer) (o′ : List ℕ) → Encoded K u d o a o′
-    → Exactly (a ≡ Done) (EncodeAsks K u d (length o))
-encode-exactly K u d o a o′ x =
-    through (done-exactly (encodeOrder K u d (length o)) tt a _ _ (x .told) (x .line)) (encode-free K u d (length o))
-
-pub complete-exactly : (K : ℕ) (w : List ℕ) (a : Answer) (w′ : List ℕ) → Completed K w a w′
-    → Exactly (a ≡ Done) (CompleteAsks K w)
-complete-exactly K w a w′ x =
-    through (done-exactly (completeOrder K w) tt a _ _ (x .told) (x .word)) (complete-free K w)
-
-pub piece-exactly : (b : ℕ) (s : List ℕ) (t : Stream) (r : Step) → PieceTaken b s t r
-    → Exactly (r .answer ≡ Done) (PieceAsks (t .held) b s)
-piece-exactly b s t r x =
-    through (done-exactly (pieceOrder (t .held) b s) tt (r .answer) _ _ (x .told) (x .stream))
-    (piece-free (t .held) b s)
-
-pub finish-exactly : (d : ℕ) (t : Stream) (o : List ℕ) (r : Step) (o′ : List ℕ) → Finished d t o r o′
-    → Exactly (r .answer ≡ Done) (FinishAsks (t .held) d (length o))
-finish-exactly d t o r o′ x =
-    through (done-exactly (finishOrder (t .held) d (length o)) tt (r .answer) _ _ (x .told) (x .effect))
-    (finish-free (t .held) d (length o))
-
-pub word-exactly : (K : ℕ) (w : List ℕ) (j : Judgement) → WordChecked K w j
-    → Exactly ((v : Verdict) × (j ≡ Judged v)) (WordAsks K w)
-word-exactly K w j x = through (judged-exactly (wordOrder K w) tt _ j (x .told) (x .verdict)) (word-free K w)
-
-pub line-exactly : (K : ℕ) (l : List ℕ) (d : ℕ) (j : Judgement) → LineChecked K l d j
-    → Exactly ((v : Verdict) × (j ≡ Judged v)) (LineAsks K l d)
-line-exactly K l d j x = through (judged-exactly (lineOrder K l d) tt _ j (x .told) (x .verdict)) (line-free K l d)
+  pub line-exactly : (K : ℕ) (l : List ℕ) (d : ℕ) (j : Judgement) → LineChecked f K l d j
+      → Exactly ((v : Verdict) × (j ≡ Judged v)) (LineAsks f K l d)
+  line-exactly K l d j x = (
+    λ e. line-asked f (ap refusalIn (e .1)) K l d (x .told),
+    λ i. judged-exactly (lineOrder f K l d) tt j x .1 (line-free K l d i),
+  )

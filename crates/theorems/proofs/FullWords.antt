@@ -1,23 +1,24 @@
--- Full words: which the check accepts, what it names first, and that it accepts what complete leaves.
+-- Full words: which the check accepts, what it names first, and that it accepts what complete leaves. Any format.
 --
 --   word-accepted         a full word is accepted exactly when its shortened places are 0 and every check holds
 --   shortened-named       a shortened place that is named is the lowest that is 1
 --   check-named           a row that is named is the first that fails, with how many do; no shortened place is 1
+--   payload-kept, completed-length, completed-holds   what completing leaves: the payload places, the bytes, the checks
 --   complete-then-check   what complete leaves, the check with the same payload count accepts
-use mathlib.Core.Path.{_≡_, refl, sym, ap, subst, _∙_}
+use mathlib.Core.Path.{_≡_, refl, ap, subst, _∙_}
 use mathlib.Core.List.{List}
-use Prim.Native.Nat.{ℕ, _+_, _-_, _*_, _≤_, _<_}
-use native.Mathlib.Decide.{decLt}
+use Prim.Native.Nat.{ℕ, _+_, _-_, _*_, _/_, _≤_, _<_}
 use native.Mathlib.Omega.{arith}
 use lib.ListN.{length, take, length-append}
 use lib.Seq.{length-take-le}
-use Rattle.rules.specs.Bits.{bit}
-use Rattle.rules.specs.Matrix.{check}
-use Rattle.rules.specs.Table.{fibre}
+use Rattle.rules.specs.Bits.{bit, need}
+use Rattle.rules.specs.Matrix.{places, checks, payloadPlaces, check, AllHold}
+use Rattle.rules.specs.Formats.{Format}
 use Rattle.rules.specs.Words.{fullWord}
 use Rattle.rules.specs.Verdicts.{Nowhere, ShortenedSet, rowFails, howMany}
 use Rattle.rules.specs.Refusals.{wordOrder}
-use Rattle.rules.specs.Promises.{Completed, WordChecked}
+use Rattle.rules.specs.Asked.{CompleteAsks}
+use Rattle.rules.specs.Promises.{Completion, Completed, WordChecked}
 use Rattle.rules.specs.declared.Answer.the-variants.{Done}
 use Rattle.rules.specs.declared.Cause.the-variants.{Shortened, Check}
 use Rattle.rules.specs.declared.Verdict.the-variants.{Accepted, Rejected}
@@ -25,9 +26,10 @@ use Rattle.rules.specs.declared.Judgement.{Judgement}
 use Rattle.rules.specs.declared.Judgement.the-variants.{Judged}
 use Rattle.rules.proofs.Checks.{check-below, check-same}
 use Rattle.laws.proofs.Bits.{bit<, bit-take, bit-front, bit-back}
-use Rattle.laws.proofs.Runs.{run-low, run-high}
+use Rattle.laws.proofs.Runs.{run-each}
+use Rattle.laws.proofs.Parities.{places-parts}
 use Rattle.theorems.specs.Exactly.{Exactly}
-use Rattle.theorems.specs.Asked.{CompleteAsks}
+use Rattle.theorems.specs.Sized.{Sized}
 use Rattle.theorems.specs.Accepted.{GoodWord}
 use Rattle.theorems.proofs.Same.{word-check-same}
 use Rattle.theorems.proofs.Refusing.{free-told}
@@ -37,86 +39,108 @@ use Rattle.theorems.proofs.Asked.{complete-exactly, word-free, word-exa
 not-one : (b : ℕ) → b < 2 → (b ≡ 1 → ⊥) → b ≡ 0
 not-one b h d = omega arith
 
-module _ (K : ℕ) (w : List ℕ) where
-  unset : Nowhere (ShortenedSet K (bit w)) → (n : ℕ) → K ≤ n → n < 14592 → bit w n ≡ 0
+module _ (f : Format) (K : ℕ) (w : List ℕ) where
+  abbrev row : ℕ → ℕ
+  row n = check (f .code) n (bit w)
+
+  row-unset : (n : ℕ) → (row n ≡ 1 → ⊥) → row n ≡ 0
+  row-unset n = not-one (row n) (check-below (f .code) n (bit w))
+
+  unset : Nowhere (ShortenedSet (f .code) K (bit w)) → (n : ℕ) → K ≤ n → n < payloadPlaces (f .code) → bit w n ≡ 0
   unset none n a b = not-one (bit w n) (bit< w n) (λ e. none n (a, b, e))
 
-  accepted-good : WordChecked K w (Judged Accepted) → GoodWord K w
-  accepted-good x = record {
-    asked = word-exactly K w (Judged Accepted) x .0 (Accepted, refl);
-    shortened = unset (x .verdict .0);
-    all-hold = λ n h. not-one (check fibre n (bit w)) (check-below fibre n (bit w)) (λ e. x .verdict .1 n (h, e));
-  }
-
-  good-accepted : GoodWord K w → WordChecked K w (Judged Accepted)
-  good-accepted g = record {
-    told = free-told (wordOrder K w) (word-free K w .1 (g .asked));
+  good-word : GoodWord f K w → WordChecked f K w (Judged Accepted)
+  good-word g = record {
+    told = free-told (wordOrder f K w) (word-free f K w (g .asked));
     verdict = (
       λ n s. omega (arith, g .shortened n (s .0) (s .1), s .2),
-      λ n f. omega (arith, g .all-hold n (f .0), f .1),
+      λ n s. omega (arith, g .all-hold n (s .0), s .1),
     );
   }
 
-  pub word-accepted : (j : Judgement) → WordChecked K w j → Exactly (j ≡ Judged Accepted) (GoodWord K w)
+  word-good : WordChecked f K w (Judged Accepted) → GoodWord f K w
+  word-good x = record {
+    asked = word-exactly f K w (Judged Accepted) x .0 (Accepted, refl);
+    shortened = unset (x .verdict .0);
+    all-hold = λ n h. row-unset n (λ e. x .verdict .1 n (h, e));
+  }
+
+  pub word-accepted : (j : Judgement) → WordChecked f K w j → Exactly (j ≡ Judged Accepted) (GoodWord f K w)
   word-accepted j x = (
-    λ e. accepted-good (subst (WordChecked K w) e x),
-    λ g. word-check-same K w j (Judged Accepted) x (good-accepted g),
+    λ e. word-good (subst (WordChecked f K w) e x),
+    λ g. word-check-same f K w j (Judged Accepted) x (good-word g),
   )
 
-  pub shortened-named : (n : ℕ) → WordChecked K w (Judged (Rejected (Shortened n)))
-      → (K ≤ n) × (n < 14592) × (bit w n ≡ 1) × ((k : ℕ) → K ≤ k → k < n → bit w k ≡ 0)
+  pub shortened-named : (n : ℕ) → WordChecked f K w (Judged (Rejected (Shortened n)))
+      → (K ≤ n) × (n < payloadPlaces (f .code)) × (bit w n ≡ 1) × ((k : ℕ) → K ≤ k → k < n → bit w k ≡ 0)
   shortened-named n x =
       let v = x .verdict in
       let below : (k : ℕ) → K ≤ k → k < n → bit w k ≡ 0 =
       λ k a l. not-one (bit w k) (bit< w k) (λ e. v .1 k l (a, omega (arith, l, v .0 .1), e)) in
       (v .0 .0, v .0 .1, v .0 .2, below)
 
-  pub check-named : (n m : ℕ) → WordChecked K w (Judged (Rejected (Check n m)))
-      → ((k : ℕ) → K ≤ k → k < 14592 → bit w k ≡ 0) × (n < 3072) × (check fibre n (bit w) ≡ 1)
-      × ((k : ℕ) → k < n → check fibre k (bit w) ≡ 0) × (m ≡ howMany 3072 (rowFails (bit w)))
+  pub check-named : (n m : ℕ) → WordChecked f K w (Judged (Rejected (Check n m)))
+      → ((k : ℕ) → K ≤ k → k < payloadPlaces (f .code) → bit w k ≡ 0) × (n < checks (f .code))
+      × (check (f .code) n (bit w) ≡ 1) × ((k : ℕ) → k < n → check (f .code) k (bit w) ≡ 0)
+      × (m ≡ howMany (checks (f .code)) (rowFails (f .code) (bit w)))
   check-named n m x =
       let v = x .verdict in
-      let below : (k : ℕ) → k < n → check fibre k (bit w) ≡ 0 =
-      λ k l.
-      not-one (check fibre k (bit w)) (check-below fibre k (bit w))
-      (λ e. v .1 .1 k l (omega (arith, l, v .1 .0 .0), e)) in
+      let below : (k : ℕ) → k < n → row k ≡ 0 =
+      λ k l. row-unset k (λ e. v .1 .1 k l (omega (arith, l, v .1 .0 .0), e)) in
       (unset (v .0), v .1 .0 .0, v .1 .0 .1, below, v .2)
 
-module _ (K : ℕ) (w w′ : List ℕ) (c : Completed K w Done w′) where
+-- a full word w that was completed to w′, by whatever order
+module _ (f : Format) (sized : Sized f) (w w′ : List ℕ) (bytes : length w ≡ need (places (f .code)))
+    (x : Completion (f .code) w w′) where
+  abbrev frontBytes : ℕ
+  frontBytes = payloadPlaces (f .code) / 8
+
   abbrev p : List ℕ
-  p = c .word .0
+  p = x .0
 
-  asked : CompleteAsks K w
-  asked = complete-exactly K w Done w′ c .0 refl
+  front-bits : 8 * frontBytes ≡ payloadPlaces (f .code)
+  front-bits = omega arith
 
-  front-length : length (take 1824 w) ≡ 1824
-  front-length = length-take-le 1824 w (omega (arith, asked .bytes))
+  front-length : length (take frontBytes w) ≡ frontBytes
+  front-length = length-take-le frontBytes w (omega (arith, places-parts (f .code) (sized .rows)))
 
-  payload : (n : ℕ) → n < 14592 → bit w′ n ≡ bit w n
-  payload n h =
-      ap (λ (v : List ℕ). bit v n) (c .word .2)
-      ∙ bit-front (take 1824 w) p n (omega (arith, front-length))
-      ∙ bit-take w 1824 n (omega arith)
+  pub payload-kept : (n : ℕ) → n < payloadPlaces (f .code) → bit w′ n ≡ bit w n
+  payload-kept n h =
+      ap (λ (v : List ℕ). bit v n) (x .2)
+      ∙ bit-front (take frontBytes w) p n (omega (arith, front-length, front-bits))
+      ∙ bit-take w frontBytes n (omega (arith, front-bits))
 
-  whole : (n : ℕ) → bit w′ n ≡ fullWord (bit w) p n
-  whole n = elim (decLt n 14592) [
-    | yes h ↦ payload n h ∙ sym (run-low 14592 (bit w) (bit p) n h)
-    | no h ↦
-        let e : 8 * 1824 + (n - 14592) ≡ n = omega arith in
-        ap (λ (v : List ℕ). bit v n) (c .word .2)
-        ∙ rw e at (bit-back (take 1824 w) p 1824 (n - 14592) front-length)
-        ∙ sym (run-high 14592 (bit w) (bit p) n (omega arith))
-  ]
+  word-bit : (n : ℕ) → bit w′ n ≡ fullWord (f .code) (bit w) p n
+  word-bit n =
+      run-each (payloadPlaces (f .code)) (bit w) (bit p) n (λ v. bit w′ n ≡ v) (payload-kept n)
+      (λ h.
+      let e : 8 * frontBytes + (n - payloadPlaces (f .code)) ≡ n = omega (arith, front-bits) in
+      ap (λ (v : List ℕ). bit v n) (x .2)
+      ∙ rw e at (bit-back (take frontBytes w) p frontBytes (n - payloadPlaces (f .code)) front-length))
 
-  whole-length : length w′ ≡ 2208
-  whole-length = ap length (c .word .2) ∙ length-append (take 1824 w) p ∙ omega (arith, front-length, c .word .1 .bytes)
+  pub completed-length : length w′ ≡ need (places (f .code))
+  completed-length =
+      ap length (x .2)
+      ∙ length-append (take frontBytes w) p
+      ∙ omega (arith, front-length, front-bits, x .1 .packed .bytes, places-parts (f .code) (sized .rows))
 
-  completed-good : GoodWord K w′
-  completed-good = record {
-    asked = record { count = asked .count; bytes = whole-length };
-    shortened = λ n a b. payload n b ∙ unset K w (asked .shortened) n a b;
-    all-hold = λ n h. check-same fibre n (bit w′) (fullWord (bit w) p) (λ m l. whole m) ∙ c .word .1 .all-hold n h;
-  }
+  pub completed-holds : AllHold (f .code) (bit w′)
+  completed-holds n h =
+      check-same (f .code) n (bit w′) (fullWord (f .code) (bit w) p) (λ m l. word-bit m) ∙ x .1 .all-hold n h
 
-  pub complete-then-check : (j : Judgement) → WordChecked K w′ j → j ≡ Judged Accepted
-  complete-then-check j h = word-accepted K w′ j h .1 completed-good
+module _ (f : Format) (sized : Sized f) (K : ℕ) (w w′ : List ℕ) (c : Completed f K w Done w′) where
+  complete-asks : CompleteAsks f K w
+  complete-asks = complete-exactly f K w Done w′ c .0 refl
+
+  completed-good : GoodWord f K w′
+  completed-good =
+      let bytes = complete-asks .bytes in
+      let kept = payload-kept f sized w w′ bytes (c .effect) in
+      record {
+        asked = record { count = complete-asks .count; bytes = completed-length f sized w w′ bytes (c .effect) };
+        shortened = λ n a b. kept n b ∙ unset f K w (complete-asks .shortened) n a b;
+        all-hold = completed-holds f sized w w′ bytes (c .effect);
+      }
+
+  pub complete-then-check : (j : Judgement) → WordChecked f K w′ j → j ≡ Judged Accepted
+  complete-then-check j h = word-accepted f K w′ j h .1 completed-good

@@ -1,5 +1,5 @@
--- The C boundary: two outcomes that fit one promise are equal, 0 is told exactly when written or accepted, a refusal is
--- 1 to 65,535, and a check's answer can be read back from its number.
+-- The C boundary of the fibre code: two outcomes that fit one promise are equal, 0 is told exactly when written or
+-- accepted, a refusal is 1 to 65,535, and a check's answer can be read back from its number.
 --
 --   host-encode-same, host-word-same, host-line-same    two outcomes of one call are equal
 --   host-encode-zero        0 exactly when written
@@ -16,14 +16,16 @@ use native.Mathlib.Omega.{arith}
 use lib.ListN.{length}
 use borrow.Author.Tests.{ne-eqb, lt-ltb}
 use Rattle.rules.specs.Bits.{Bytes}
+use Rattle.rules.specs.Formats.{fibreFormat}
 use Rattle.rules.specs.Refusals.{tells, encodeOrder}
-use Rattle.rules.specs.Promises.{number, Encoded, WordChecked, LineChecked}
+use Rattle.rules.specs.Promises.{refusalOf, Encoded, WordChecked, LineChecked}
 use Rattle.rules.specs.declared.Answer.{Answer}
 use Rattle.rules.specs.declared.Answer.the-variants.{Done}
 use Rattle.rules.specs.declared.Verdict.the-variants.{Accepted}
 use Rattle.rules.specs.declared.Judgement.{Judgement}
 use Rattle.rules.specs.declared.Judgement.the-variants.{Judged, Refused}
 use Rattle.laws.proofs.Told.{told-single}
+use Rattle.parity.proofs.Single.{fibre-one}
 use Rattle.host.specs.Numbers.{judgementNumber, JudgementFits, readBack, HostEncoded, HostWord, HostLine}
 use Rattle.host.proofs.Fits.{told-short, word-fits, line-fits}
 use Rattle.host.proofs.Reading.{read-back, apart}
@@ -33,30 +35,35 @@ use Rattle.theorems.proofs.Same.{encode-same, word-check-same, line-che
 use Rattle.theorems.proofs.Refusing.{none-done, encode-kept}
 use Rattle.theorems.proofs.FullWords.{word-accepted}
 use Rattle.theorems.proofs.Lines.{line-accepted}
+use Rattle.theorems.proofs.Fibre.{fibre-sized}
 
 module _ (K : ℕ) (u : List ℕ) (d : ℕ) (o : List ℕ) where
   pub host-encode-same : (r s : ℕ) (o′ o″ : List ℕ) → Bytes o′ → Bytes o″ → HostEncoded K u d o r o′
       → HostEncoded K u d o s o″
       → (r ≡ s) × (o′ ≡ o″)
   host-encode-same r s o′ o″ b b′ x y =
-      let e = encode-same K u d o (x .answer) (y .answer) o′ o″ b b′ (x .encoded) (y .encoded) in
-      (x .result ∙ ap number (e .0) ∙ sym (y .result), e .1)
+      let same = encode-same fibreFormat fibre-one fibre-sized K u d o (x .answer) (y .answer) o′ o″ b b′ in
+      let e = same (x .encoded) (y .encoded) in
+      (x .result ∙ ap refusalOf (e .0) ∙ sym (y .result), e .1)
 
-  pub host-encode-zero : (r : ℕ) (o′ : List ℕ) → HostEncoded K u d o r o′ → Exactly (r ≡ 0) (Encoded K u d o Done o′)
+  pub host-encode-zero : (r : ℕ) (o′ : List ℕ) → HostEncoded K u d o r o′
+      → Exactly (r ≡ 0) (Encoded fibreFormat K u d o Done o′)
   host-encode-zero r o′ x = (
     λ e.
-        let done = none-done (x .answer) _ _ (sym (x .result) ∙ e) (x .encoded .line) in
-        subst (λ (a : Answer). Encoded K u d o a o′) done (x .encoded),
-    λ w. x .result ∙ told-single (encodeOrder K u d (length o)) (number (x .answer)) 0 (x .encoded .told) (w .told),
+        let done = none-done (x .answer) (sym (x .result) ∙ e) (x .encoded) in
+        subst (λ (a : Answer). Encoded fibreFormat K u d o a o′) done (x .encoded),
+    λ w.
+        let order = encodeOrder fibreFormat K u d (length o) in
+        x .result ∙ told-single order (refusalOf (x .answer)) 0 (x .encoded .told) (w .told),
   )
 
   pub host-encode-refused : (r : ℕ) (o′ : List ℕ) → HostEncoded K u d o r o′ → (r ≡ 0 → ⊥)
-      → tells (encodeOrder K u d (length o)) r × (0 < r) × (r < 2 ^ 16) × (o′ ≡ o)
+      → tells (encodeOrder fibreFormat K u d (length o)) r × (0 < r) × (r < 2 ^ 16) × (o′ ≡ o)
   host-encode-refused r o′ x n =
-      let t : tells (encodeOrder K u d (length o)) r = rw (x .result) (x .encoded .told) in
-      let not-done : x .answer ≡ Done → ⊥ = λ e. n (x .result ∙ ap number e) in
-      let kept = encode-kept K u d o (x .answer) o′ not-done (x .encoded) in
-      (t, omega arith, told-short (encodeOrder K u d (length o)) tt r t, kept)
+      let t : tells (encodeOrder fibreFormat K u d (length o)) r = rw (x .result) (x .encoded .told) in
+      let not-done : x .answer ≡ Done → ⊥ = λ e. n (x .result ∙ ap refusalOf e) in
+      let kept = encode-kept fibreFormat K u d o (x .answer) o′ not-done (x .encoded) in
+      (t, omega arith, told-short (encodeOrder fibreFormat K u d (length o)) tt r t, kept)
 
 -- P says what a check may answer to an input, and G when it accepts that input; r is the number of an answer j
 module _ (P : Judgement → Type 0) (G : Type 0) (accepted : (j : Judgement) → P j → Exactly (j ≡ Judged Accepted) G)
@@ -83,42 +90,45 @@ module _ (P : Judgement → Type 0) (G : Type 0) (accepted : (j : Judgement) →
 module _ (K : ℕ) (w : List ℕ) where
   pub host-word-same : (r s : ℕ) → HostWord K w r → HostWord K w s → r ≡ s
   host-word-same r s x y =
-      let same = word-check-same K w (x .judgement) (y .judgement) (x .checked) (y .checked) in
+      let same = word-check-same fibreFormat K w (x .judgement) (y .judgement) (x .checked) (y .checked) in
       x .result ∙ ap judgementNumber same ∙ sym (y .result)
 
   module _ (r : ℕ) (x : HostWord K w r) where
-    word-told : WordChecked K w (readBack r) × Exactly (r ≡ 0) (GoodWord K w)
-        × Exactly ((0 < r) × (r < 2 ^ 16)) (WordChecked K w (Refused r))
-    word-told = told (WordChecked K w) _ (word-accepted K w) (word-fits K w) r (x .judgement) (x .checked) (x .result)
+    word-told : WordChecked fibreFormat K w (readBack r) × Exactly (r ≡ 0) (GoodWord fibreFormat K w)
+        × Exactly ((0 < r) × (r < 2 ^ 16)) (WordChecked fibreFormat K w (Refused r))
+    word-told =
+        told (WordChecked fibreFormat K w) _ (word-accepted fibreFormat K w) (word-fits K w) r (x .judgement)
+        (x .checked) (x .result)
 
-    pub host-word-read : WordChecked K w (readBack r)
+    pub host-word-read : WordChecked fibreFormat K w (readBack r)
     host-word-read = word-told .0
 
-    pub host-word-zero : Exactly (r ≡ 0) (GoodWord K w)
+    pub host-word-zero : Exactly (r ≡ 0) (GoodWord fibreFormat K w)
     host-word-zero = word-told .1
 
-    pub host-word-refused : Exactly ((0 < r) × (r < 2 ^ 16)) (WordChecked K w (Refused r))
+    pub host-word-refused : Exactly ((0 < r) × (r < 2 ^ 16)) (WordChecked fibreFormat K w (Refused r))
     host-word-refused = word-told .2
 
 module _ (K : ℕ) (l : List ℕ) (d : ℕ) where
   pub host-line-same : (r s : ℕ) → HostLine K l d r → HostLine K l d s → r ≡ s
   host-line-same r s x y =
-      let same = line-check-same K l d (x .judgement) (y .judgement) (x .checked) (y .checked) in
-      x .result ∙ ap judgementNumber same ∙ sym (y .result)
+      let same = line-check-same fibreFormat fibre-one fibre-sized K l d (x .judgement) (y .judgement) in
+      x .result ∙ ap judgementNumber (same (x .checked) (y .checked)) ∙ sym (y .result)
 
   module _ (r : ℕ) (x : HostLine K l d r) where
-    line-told : LineChecked K l d (readBack r) × Exactly (r ≡ 0) (GoodLine K l d)
-        × Exactly ((0 < r) × (r < 2 ^ 16)) (LineChecked K l d (Refused r))
+    line-told : LineChecked fibreFormat K l d (readBack r) × Exactly (r ≡ 0) (GoodLine fibreFormat K l d)
+        × Exactly ((0 < r) × (r < 2 ^ 16)) (LineChecked fibreFormat K l d (Refused r))
     line-told =
-        told (LineChecked K l d) _ (line-accepted K l d) (line-fits K l d) r (x .judgement) (x .checked) (x .result)
+        told (LineChecked fibreFormat K l d) _ (line-accepted fibreFormat fibre-one fibre-sized K l d) (line-fits K l d)
+        r (x .judgement) (x .checked) (x .result)
 
-    pub host-line-read : LineChecked K l d (readBack r)
+    pub host-line-read : LineChecked fibreFormat K l d (readBack r)
     host-line-read = line-told .0
 
-    pub host-line-zero : Exactly (r ≡ 0) (GoodLine K l d)
+    pub host-line-zero : Exactly (r ≡ 0) (GoodLine fibreFormat K l d)
     host-line-zero = line-told .1
 
-    pub host-line-refused : Exactly ((0 < r) × (r < 2 ^ 16)) (LineChecked K l d (Refused r))
+    pub host-line-refused : Exactly ((0 < r) × (r < 2 ^ 16)) (LineChecked fibreFormat K l d (Refused r))
     host-line-refused = line-told .2
 
 answer-fits : (j : Judgement) → CheckAnswer j → JudgementFits j

@@ -4,4 +4,5 @@ pub mod Asked
 pub mod FullWords
 pub mod Lines
 pub mod Streams
+pub mod Fibre
 pub mod Host

@@ -1,57 +1,48 @@
--- Any two outcomes that fit one promise are equal: the answer, and every later byte and stream. Buffers are bytes.
+-- Any two outcomes that fit one promise are equal: the answer, and every later byte and stream. Buffers are bytes. Any
+-- format.
 --
 --   complete-same, word-check-same, encode-same, line-check-same, piece-same, finish-same
+--   completion-same, written-line-same, finished-same    the same by any order
+--
+--   written-bit    a bit that is written
+--   stream-of      streams with the same count and the same running checks are equal
+--   line-one       the line word of a payload is single
 use mathlib.Core.Path.{_≡_, refl, sym, ap, ap₂, subst, _∙_}
 use mathlib.Core.List.{List, _++_}
-use Prim.Native.Nat.{ℕ, _+_, _-_, _*_, _<_}
+use Prim.Native.Nat.{ℕ, _+_, _-_, _*_, _/_, _<_}
 use native.Mathlib.Decide.{decLt}
 use native.Mathlib.Omega.{arith}
 use lib.ListN.{length, take}
 use lib.Seq.{getD-append-add}
 use Rattle.rules.specs.Bits.{bit, Bytes, need, zeros, Written}
-use Rattle.rules.specs.Words.{padded, Parity, OwnChecks, tail, tailBits, lineWord, lineBits}
-use Rattle.rules.specs.Verdicts.{WordVerdict, LineVerdict, TailVerdict, ParityDiffers}
+use Rattle.rules.specs.Matrix.{payloadPlaces}
+use Rattle.rules.specs.Formats.{Format}
+use Rattle.rules.specs.Words.{padded, Parity, tail, tailBits, lineWord, lineBits}
+use Rattle.rules.specs.Verdicts.{WordVerdict, LineVerdict}
 use Rattle.rules.specs.Streams.{fresh, Fed}
+use Rattle.rules.specs.Refusals.{Refusal}
 use Rattle.rules.specs.Refusals.{encodeOrder, pieceOrder, finishOrder, completeOrder, wordOrder, lineOrder}
-use Rattle.rules.specs.Promises.{number, refusal, Completed, WordChecked, Encoded, LineChecked, PieceTaken, Finished}
+use Rattle.rules.specs.Promises.{Promise, Completion, LineWritten, TailWritten}
+use Rattle.rules.specs.Promises.{Completed, WordChecked, Encoded, LineChecked, PieceTaken, Finished}
 use Rattle.rules.specs.declared.Answer.{Answer}
-use Rattle.rules.specs.declared.Cause.the-variants as cause
-use Rattle.rules.specs.declared.Verdict.{Verdict}
-use Rattle.rules.specs.declared.Verdict.the-variants.{Accepted, Rejected}
 use Rattle.rules.specs.declared.Judgement.{Judgement}
 use Rattle.rules.specs.declared.Stream.{Stream}
-use Rattle.rules.specs.declared.Step.{Step}
+use Rattle.rules.specs.declared.Outcome.{Outcome}
 use Rattle.laws.proofs.Bits.{bits-same, bit-drop}
-use Rattle.laws.proofs.Runs.{run-same}
-use Rattle.laws.proofs.Told.{told-single, outcome-same}
-use Rattle.laws.proofs.Judged.{word-same, tail-same, judgement-same}
-use Rattle.laws.proofs.Running.{added-same}
-use Rattle.parity.proofs.Single.{own-bits-one, parity-bits-one, payload-one}
+use Rattle.laws.proofs.Runs.{run-low, run-same}
+use Rattle.laws.proofs.Adds.{adds-same}
+use Rattle.laws.proofs.Told.{promise-same, checked-same}
+use Rattle.laws.proofs.Judged.{word-same, line-same}
+use Rattle.laws.proofs.Tails.{tail-same}
+use Rattle.laws.proofs.Parities.{OneParity, parity-bits-one, payload-one}
+use Rattle.theorems.specs.Sized.{Sized}
 
 -- the second part of bytes is bytes
 bytes-back : (s t : List ℕ) → Bytes (s ++ t) → Bytes t
 bytes-back s t h i = rw getD-append-add at (h (length s + i))
 
-pub complete-same : (K : ℕ) (w : List ℕ) (a b : Answer) (w′ w″ : List ℕ) → Bytes w′ → Bytes w″
-    → Completed K w a w′ → Completed K w b w″ → (a ≡ b) × (w′ ≡ w″)
-complete-same K w a b w′ w″ h k x y =
-    outcome-same Bytes (λ v. (p : List ℕ) × Parity (bit w) p × (v ≡ take 1824 w ++ p)) (λ v. v ≡ w) done
-    (λ o o′ e f. e ∙ sym f) a b w′ w″
-    (told-single (completeOrder K w) (number a) (number b) (x .told) (y .told)) h k (x .word) (y .word)
-  where
-    done : (o o′ : List ℕ) → Bytes o → Bytes o′ → (p : List ℕ) × Parity (bit w) p × (o ≡ take 1824 w ++ p)
-        → (p : List ℕ) × Parity (bit w) p × (o′ ≡ take 1824 w ++ p) → o ≡ o′
-    done o o′ g g′ p q =
-        p .2
-        ∙ ap (λ (v : List ℕ). take 1824 w ++ v)
-        (payload-one (bit w) (p .0) (q .0) (bytes-back (take 1824 w) (p .0) (subst Bytes (p .2) g))
-        (bytes-back (take 1824 w) (q .0) (subst Bytes (q .2) g′)) (p .1) (q .1))
-        ∙ sym (q .2)
-
-pub word-check-same : (K : ℕ) (w : List ℕ) (j j′ : Judgement) → WordChecked K w j → WordChecked K w j′ → j ≡ j′
-word-check-same K w j j′ x y =
-    judgement-same (WordVerdict K (bit w)) (word-same K (bit w)) j j′
-    (told-single (wordOrder K w) (refusal j) (refusal j′) (x .told) (y .told)) (x .verdict) (y .verdict)
+pub written-bit : {b : ℕ} {x : ℕ → ℕ} {s t : List ℕ} → Written b x s t → (n : ℕ) → n < b → bit t n ≡ x n
+written-bit {b} {x} w n h = w .bits n (omega arith) ∙ run-low b x zeros n h
 
 -- what is written is single, where the bits to write are
 written-same : (b : ℕ) (x y : ℕ → ℕ) (s t u : List ℕ) → Bytes t → Bytes u → ((n : ℕ) → n < b → x n ≡ y n)
@@ -68,108 +59,113 @@ written-same b x y s t u bt bu e p q = bits-same t u bt bu (p .length-same ∙ s
           rw (← f) (sym (bit-drop t (need b) m) ∙ after ∙ bit-drop u (need b) m)
     ]
 
-pub tail-bits : (p q : List ℕ) (d : ℕ) → ((n : ℕ) → n < 3072 → bit p n ≡ bit q n) → (n : ℕ) → tail p d n ≡ tail q d n
-tail-bits p q d e = run-same 2560 (bit p) _ (bit q) _ (λ n h. e n (omega arith)) (λ n. refl)
-
-pub encode-same : (K : ℕ) (u : List ℕ) (d : ℕ) (o : List ℕ) (a b : Answer) (o′ o″ : List ℕ) → Bytes o′ → Bytes o″
-    → Encoded K u d o a o′ → Encoded K u d o b o″ → (a ≡ b) × (o′ ≡ o″)
-encode-same K u d o a b o′ o″ h k x y =
-    outcome-same Bytes Line (λ v. v ≡ o) done (λ v v′ e f. e ∙ sym f) a b o′ o″
-    (told-single (encodeOrder K u d (length o)) (number a) (number b) (x .told) (y .told)) h k (x .line) (y .line)
-  where
-    Line : List ℕ → Type 0
-    Line v = (p : List ℕ) × Parity (padded K (bit u)) p × Written (lineBits K) (lineWord K (bit u) p d) o v
-
-    done : (v v′ : List ℕ) → Bytes v → Bytes v′ → Line v → Line v′ → v ≡ v′
-    done v v′ g g′ p q =
-        written-same (lineBits K) (lineWord K (bit u) (p .0) d) (lineWord K (bit u) (q .0) d) o v v′ g g′
-        (λ n l.
-        run-same K (bit u) (tail (p .0) d) (bit u) (tail (q .0) d) (λ k m. refl)
-        (tail-bits (p .0) (q .0) d (parity-bits-one (padded K (bit u)) (p .0) (q .0) (p .1) (q .1))) n)
-        (p .2) (q .2)
-
--- a verdict beside one parity is the verdict beside another with the same bits
-tail-verdict : (K : ℕ) (l : List ℕ) (d : ℕ) (p q : List ℕ) → ((n : ℕ) → n < 3072 → bit p n ≡ bit q n) → (v : Verdict)
-    → TailVerdict K l d p v → TailVerdict K l d q v
-tail-verdict K l d p q e v h = over v h
-  where
-    there : (n : ℕ) → ParityDiffers K l p n → ParityDiffers K l q n
-    there n x = (x .0, λ f. x .1 (f ∙ sym (e n (omega (arith, x .0)))))
-
-    back : (n : ℕ) → ParityDiffers K l q n → ParityDiffers K l p n
-    back n x = (x .0, λ f. x .1 (f ∙ e n (omega (arith, x .0))))
-
-    over : (v : Verdict) → TailVerdict K l d p v → TailVerdict K l d q v
-    over Accepted h = (λ n x. h .0 n (back n x), h .1)
-    over (Rejected (cause.Parity n)) h = (there n (h .0), λ m k x. h .1 m k (back m x))
-    over (Rejected (cause.Delimiter n)) h = (λ m x. h .0 m (back m x), h .1)
-    over (Rejected (cause.Shortened n)) h = h
-    over (Rejected (cause.Check n m)) h = h
-
-line-same : (K : ℕ) (l : List ℕ) (d : ℕ) (v v′ : Verdict) → LineVerdict K l d v → LineVerdict K l d v′ → v ≡ v′
-line-same K l d v v′ x y =
-    let same = parity-bits-one (padded K (bit l)) (x .0) (y .0) (x .1) (y .1) in
-    tail-same K l d (y .0) v v′ (tail-verdict K l d (x .0) (y .0) same v (x .2)) (y .2)
-
-pub line-check-same : (K : ℕ) (l : List ℕ) (d : ℕ) (j j′ : Judgement) → LineChecked K l d j → LineChecked K l d j′
-    → j ≡ j′
-line-check-same K l d j j′ x y =
-    judgement-same (LineVerdict K l d) (line-same K l d) j j′
-    (told-single (lineOrder K l d) (refusal j) (refusal j′) (x .told) (y .told)) (x .verdict) (y .verdict)
-
--- a stream is its count and its running checks; a step is its answer and its stream
 pub stream-of : {s t : Stream} → s .held ≡ t .held → s .checks ≡ t .checks → s ≡ t
 stream-of h c = ap₂ (λ (n : ℕ) (l : List ℕ). record { held = n; checks = l }) h c
 
-step-of : {r s : Step} → (r .answer ≡ s .answer) × (r .stream ≡ s .stream) → r ≡ s
-step-of e = ap₂ (λ (a : Answer) (t : Stream). record { answer = a; stream = t }) (e .0) (e .1)
+-- an outcome is its answer and its stream; a finish leaves a stream and an output
+outcome-of : {r s : Outcome} → r .answer ≡ s .answer → r .stream ≡ s .stream → r ≡ s
+outcome-of a t = ap₂ (λ (a : Answer) (t : Stream). record { answer = a; stream = t }) a t
 
-pub piece-same : (b : ℕ) (s : List ℕ) (t : Stream) (r r′ : Step) → length (t .checks) ≡ 384 → Bytes (r .stream .checks)
-    → Bytes (r′ .stream .checks)
-    → PieceTaken b s t r → PieceTaken b s t r′ → r ≡ r′
-piece-same b s t r r′ l h k x y =
-    step-of
-    (outcome-same (λ (v : Stream). Bytes (v .checks)) (λ v. Fed b s t v) (λ v. v ≡ t) done (λ v v′ e f. e ∙ sym f)
-    (r .answer) (r′ .answer) (r .stream) (r′ .stream)
-    (told-single (pieceOrder (t .held) b s) (number (r .answer)) (number (r′ .answer)) (x .told) (y .told)) h k
-    (x .stream) (y .stream))
-  where
-    done : (v v′ : Stream) → Bytes (v .checks) → Bytes (v′ .checks) → Fed b s t v → Fed b s t v′ → v ≡ v′
-    done v v′ g g′ p q =
-        stream-of (p .held ∙ sym (q .held))
-        (added-same _ (t .checks) (v .checks) (v′ .checks) l g g′ (p .checks) (q .checks))
+left-of : {v w : Stream × List ℕ} → v .0 ≡ w .0 → v .1 ≡ w .1 → v ≡ w
+left-of t o = ap₂ (λ (t : Stream) (o : List ℕ). (t, o)) t o
 
--- what a finish leaves: the stream, and the later output
-pub record Left : Type 0 where
-  pub stream : Stream
-  pub output : List ℕ
+module _ (f : Format) where
+  pub word-check-same : (K : ℕ) (w : List ℕ) (j j′ : Judgement) → WordChecked f K w j → WordChecked f K w j′ → j ≡ j′
+  word-check-same K w = checked-same (wordOrder f K w) (WordVerdict (f .code) K (bit w)) (word-same (f .code) K (bit w))
 
-pub finish-same : (d : ℕ) (t : Stream) (o : List ℕ) (r r′ : Step) (o′ o″ : List ℕ) → Bytes o′ → Bytes o″
-    → Finished d t o r o′ → Finished d t o r′ o″ → (r ≡ r′) × (o′ ≡ o″)
-finish-same d t o r r′ o′ o″ h k x y = (
-  step-of (both .0, ap (λ (v : Left). v .stream) (both .1)),
-  ap (λ (v : Left). v .output) (both .1),
-)
-  where
-    Finish : Left → Type 0
-    Finish v = (v .stream ≡ fresh) × (p : List ℕ) × OwnChecks (t .checks) p × Written tailBits (tail p d) o (v .output)
+  pub piece-same : (b : ℕ) (s : List ℕ) (t : Stream) (r r′ : Outcome) → Bytes (r .stream .checks)
+      → Bytes (r′ .stream .checks) → PieceTaken f b s t r → PieceTaken f b s t r′ → r ≡ r′
+  piece-same b s t r r′ h k x y = outcome-of (both .0) (both .1)
+    where
+      both : (r .answer ≡ r′ .answer) × (r .stream ≡ r′ .stream)
+      both =
+          promise-same (λ (v : Stream). Bytes (v .checks)) (λ v. Fed (f .code) b s t v) (λ v. v ≡ t)
+          (λ v v′ g g′ p q. stream-of (p .held ∙ sym (q .held)) (adds-same g g′ (p .checks) (q .checks)))
+          (λ v v′ e e′. e ∙ sym e′)
+          (pieceOrder f (t .held) b s) (r .answer) (r′ .answer) (r .stream) (r′ .stream) h k x y
 
-    Kept : Left → Type 0
-    Kept v = (v .stream ≡ t) × (v .output ≡ o)
+  module _ (one : OneParity (f .code)) where
+    pub completion-same : (q : List Refusal) (w : List ℕ) (a b : Answer) (w′ w″ : List ℕ) → Bytes w′ → Bytes w″
+        → Promise q a (Completion (f .code) w w′) (w′ ≡ w) → Promise q b (Completion (f .code) w w″) (w″ ≡ w)
+        → (a ≡ b) × (w′ ≡ w″)
+    completion-same q w =
+        promise-same Bytes (Completion (f .code) w) (λ v. v ≡ w) done (λ v v′ e e′. e ∙ sym e′) q
+      where
+        front : List ℕ
+        front = take (payloadPlaces (f .code) / 8) w
 
-    left : Stream → List ℕ → Left
-    left s v = record { stream = s; output = v }
+        done : (v v′ : List ℕ) → Bytes v → Bytes v′ → Completion (f .code) w v → Completion (f .code) w v′ → v ≡ v′
+        done v v′ g g′ p q =
+            p .2
+            ∙ ap (λ (l : List ℕ). front ++ l)
+            (payload-one (f .code) one (bit w) (p .0) (q .0) (bytes-back front (p .0) (subst Bytes (p .2) g))
+            (bytes-back front (q .0) (subst Bytes (q .2) g′)) (p .1) (q .1))
+            ∙ sym (q .2)
 
-    done : (v v′ : Left) → Bytes (v .output) → Bytes (v′ .output) → Finish v → Finish v′ → v ≡ v′
-    done v v′ g g′ p q =
-        ap₂ left (p .0 ∙ sym (q .0))
-        (written-same tailBits (tail (p .1) d) (tail (q .1) d) o (v .output) (v′ .output) g g′
-        (λ n l. tail-bits (p .1) (q .1) d (own-bits-one (t .checks) (p .1) (q .1) (p .2) (q .2)) n) (p .3) (q .3))
+    pub complete-same : (K : ℕ) (w : List ℕ) (a b : Answer) (w′ w″ : List ℕ) → Bytes w′ → Bytes w″
+        → Completed f K w a w′ → Completed f K w b w″ → (a ≡ b) × (w′ ≡ w″)
+    complete-same K w = completion-same (completeOrder f K w) w
 
-    both : (r .answer ≡ r′ .answer) × (left (r .stream) o′ ≡ left (r′ .stream) o″)
-    both =
-        outcome-same (λ (v : Left). Bytes (v .output)) Finish Kept done
-        (λ v v′ e f. ap₂ left (e .0 ∙ sym (f .0)) (e .1 ∙ sym (f .1)))
-        (r .answer) (r′ .answer) (left (r .stream) o′) (left (r′ .stream) o″)
-        (told-single (finishOrder (t .held) d (length o)) (number (r .answer)) (number (r′ .answer)) (x .told)
-        (y .told)) h k (x .effect) (y .effect)
+    module _ (sized : Sized f) where
+      -- the sent bits of a payload's parity are single
+      sent-one : (x : ℕ → ℕ) (p q : List ℕ) → Parity (f .code) x p → Parity (f .code) x q → (n : ℕ) → n < f .sent
+          → bit p n ≡ bit q n
+      sent-one x p q a b n h = parity-bits-one (f .code) one x p q a b n (omega arith)
+
+      pub line-one : (K : ℕ) (u p q : List ℕ) (d : ℕ) → Parity (f .code) (padded K (bit u)) p
+          → Parity (f .code) (padded K (bit u)) q → (n : ℕ) → lineWord f K (bit u) p d n ≡ lineWord f K (bit u) q d n
+      line-one K u p q d a b =
+          run-same K (bit u) (tail f p d) (bit u) (tail f q d) (λ n l. refl)
+          (tail-same f p q d (sent-one (padded K (bit u)) p q a b))
+
+      pub written-line-same : (q : List Refusal) (K : ℕ) (u : List ℕ) (d : ℕ) (o : List ℕ) (a b : Answer)
+          (o′ o″ : List ℕ) → Bytes o′ → Bytes o″ → Promise q a (LineWritten f K u d o o′) (o′ ≡ o)
+          → Promise q b (LineWritten f K u d o o″) (o″ ≡ o) → (a ≡ b) × (o′ ≡ o″)
+      written-line-same q K u d o =
+          promise-same Bytes (LineWritten f K u d o) (λ v. v ≡ o)
+          (λ v v′ g g′ p q.
+          let same = line-one K u (p .0) (q .0) d (p .1) (q .1) in
+          written-same (lineBits f K) _ _ o v v′ g g′ (λ n l. same n) (p .2) (q .2))
+          (λ v v′ e e′. e ∙ sym e′) q
+
+      pub encode-same : (K : ℕ) (u : List ℕ) (d : ℕ) (o : List ℕ) (a b : Answer) (o′ o″ : List ℕ) → Bytes o′ → Bytes o″
+          → Encoded f K u d o a o′ → Encoded f K u d o b o″ → (a ≡ b) × (o′ ≡ o″)
+      encode-same K u d o = written-line-same (encodeOrder f K u d (length o)) K u d o
+
+      pub line-check-same : (K : ℕ) (l : List ℕ) (d : ℕ) (j j′ : Judgement) → LineChecked f K l d j
+          → LineChecked f K l d j′ → j ≡ j′
+      line-check-same K l d =
+          checked-same (lineOrder f K l d) (LineVerdict f K l d) (line-same f K l d (sent-one (padded K (bit l))))
+
+      -- what a finish by the order q leaves
+      abbrev FinishedBy : List Refusal → ℕ → Stream → List ℕ → Outcome → List ℕ → Type 0
+      FinishedBy q d t o r o′ =
+          Promise q (r .answer) ((r .stream ≡ fresh) × TailWritten f (t .checks) d o o′) ((r .stream ≡ t) × (o′ ≡ o))
+
+      pub finished-same : (q : List Refusal) (d : ℕ) (t : Stream) (o : List ℕ) (r r′ : Outcome) (o′ o″ : List ℕ)
+          → Bytes o′ → Bytes o″ → FinishedBy q d t o r o′ → FinishedBy q d t o r′ o″ → (r ≡ r′) × (o′ ≡ o″)
+      finished-same q d t o r r′ o′ o″ h k x y = (
+        outcome-of (both .0) (ap (λ (v : Stream × List ℕ). v .0) (both .1)),
+        ap (λ (v : Stream × List ℕ). v .1) (both .1),
+      )
+        where
+          Tail : List ℕ → Type 0
+          Tail = TailWritten f (t .checks) d o
+
+          done : (v v′ : List ℕ) → Bytes v → Bytes v′ → Tail v → Tail v′ → v ≡ v′
+          done v v′ g g′ p q =
+              let same = one .own-bits-one (t .checks) (p .0) (q .0) (p .1) (q .1) in
+              written-same (tailBits f) _ _ o v v′ g g′
+              (λ n l. tail-same f (p .0) (q .0) d (λ m i. same m (omega arith)) n) (p .2) (q .2)
+
+          both : (r .answer ≡ r′ .answer) × (_≡_ {A = Stream × List ℕ} (r .stream, o′) (r′ .stream, o″))
+          both =
+              promise-same (λ (v : Stream × List ℕ). Bytes (v .1)) (λ v. (v .0 ≡ fresh) × Tail (v .1))
+              (λ v. (v .0 ≡ t) × (v .1 ≡ o))
+              (λ v v′ g g′ p q. left-of (p .0 ∙ sym (q .0)) (done (v .1) (v′ .1) g g′ (p .1) (q .1)))
+              (λ v v′ e e′. left-of (e .0 ∙ sym (e′ .0)) (e .1 ∙ sym (e′ .1)))
+              q (r .answer) (r′ .answer) (r .stream, o′) (r′ .stream, o″) h k x y
+
+      pub finish-same : (d : ℕ) (t : Stream) (o : List ℕ) (r r′ : Outcome) (o′ o″ : List ℕ) → Bytes o′ → Bytes o″
+          → Finished f d t o r o′ → Finished f d t o r′ o″ → (r ≡ r′) × (o′ ≡ o″)
+      finish-same d t o = finished-same (finishOrder f (t .held) d (length o)) d t o

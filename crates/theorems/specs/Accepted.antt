@@ -1,25 +1,24 @@
 -- Demand 2, and paper 01, 'Verdicts': which full words and which line words are accepted.
 --
---   GoodWord K w      w is a full word with a payload of K bits: its shortened places are 0 and every check holds
---   GoodLine K l d    l is a line word with a payload of K bits: some 512 punctured bits complete it, and its
---                     delimiter is d
+--   GoodWord f K w      w is a full word with a payload of K bits: its shortened places are 0 and every check holds
+--   GoodLine f K l d    l is a line word with a payload of K bits: some punctured bits complete it, and its delimiter
+--                       is d
 --
 -- Believe this file beside the paper. FullWords and Lines prove that these and no others are accepted.
 use mathlib.Core.Path.{_≡_}
 use mathlib.Core.List.{List}
 use Prim.Native.Nat.{ℕ, _≤_, _<_}
-use Rattle.rules.specs.Numbers.{payloadPlaces}
 use Rattle.rules.specs.Bits.{bit}
-use Rattle.rules.specs.Matrix.{AllHold}
-use Rattle.rules.specs.Table.{fibre}
-use Rattle.theorems.specs.Asked.{WordAsks, LineAsks}
+use Rattle.rules.specs.Matrix.{payloadPlaces, AllHold}
+use Rattle.rules.specs.Formats.{Format}
+use Rattle.rules.specs.Asked.{WordAsks, LineAsks}
 use Rattle.theorems.specs.Punctured.{Completes}
 
-pub record GoodWord (K : ℕ) (w : List ℕ) : Type 0 where
-  pub asked : WordAsks K w
-  pub shortened : (n : ℕ) → K ≤ n → n < payloadPlaces → bit w n ≡ 0
-  pub all-hold : AllHold fibre (bit w)
+pub record GoodWord (f : Format) (K : ℕ) (w : List ℕ) : Type 0 where
+  pub asked : WordAsks f K w
+  pub shortened : (n : ℕ) → K ≤ n → n < payloadPlaces (f .code) → bit w n ≡ 0
+  pub all-hold : AllHold (f .code) (bit w)
 
-pub record GoodLine (K : ℕ) (l : List ℕ) (d : ℕ) : Type 0 where
-  pub asked : LineAsks K l d
-  pub completed : (q : List ℕ) × Completes K l d q
+pub record GoodLine (f : Format) (K : ℕ) (l : List ℕ) (d : ℕ) : Type 0 where
+  pub asked : LineAsks f K l d
+  pub completed : (q : List ℕ) × Completes f K l d q

@@ -2,12 +2,13 @@
 --
 --   Exactly A B      A holds where B does, and B where A does
 --   Free o           no refusal of the order o applies
---   CheckAnswer j    j is what the full-word check or the line check answers to some input
+--   CheckAnswer j    j is what the full-word check or the line check of the fibre code answers to some input
 --
 -- Believe this file; nothing here is proved.
 use mathlib.Core.Logic.{_⊎_}
 use mathlib.Core.List.{List, [], _∷_}
 use Prim.Native.Nat.{ℕ}
+use Rattle.rules.specs.Formats.{fibreFormat}
 use Rattle.rules.specs.Refusals.{Refusal}
 use Rattle.rules.specs.Promises.{WordChecked, LineChecked}
 use Rattle.rules.specs.declared.Judgement.{Judgement}
@@ -20,4 +21,6 @@ Free [] = Unit
 Free (t ∷ o) = (t .applies → ⊥) × Free o
 
 abbrev pub CheckAnswer : Judgement → Type 0
-CheckAnswer j = ((K : ℕ) × (w : List ℕ) × WordChecked K w j) ⊎ ((K : ℕ) × (l : List ℕ) × (d : ℕ) × LineChecked K l d j)
+CheckAnswer j =
+    ((K : ℕ) × (w : List ℕ) × WordChecked fibreFormat K w j)
+    ⊎ ((K : ℕ) × (l : List ℕ) × (d : ℕ) × LineChecked fibreFormat K l d j)

@@ -1,5 +1,5 @@
 pub mod Exactly
-pub mod Asked
+pub mod Sized
 pub mod Punctured
 pub mod Accepted
 pub mod Attempts

@@ -1,23 +1,22 @@
--- Paper 01, 'Verdicts': a line word that some 512 punctured bits complete.
+-- Paper 01, 'Verdicts': a line word that some punctured bits complete. The fibre code has 512 of them, in 64 bytes.
 --
---   completed K l q      the full word of the line word l: its payload, zeros, its sent parity, the punctured bits q
---   Completes K l d q    q, 64 bytes, makes every check of that word hold, and l's delimiter is d
+--   completed f K l q      the full word of the line word l: its payload, zeros, its sent parity, the punctured bits q
+--   Completes f K l d q    q, the bytes of the punctured bits alone, makes every check of that word hold, and l's
+--                          delimiter is d
 --
 -- Believe this file beside the paper; nothing here is proved.
 use mathlib.Core.Path.{_≡_}
 use mathlib.Core.List.{List}
-use Prim.Native.Nat.{ℕ, _+_, _<_}
-use lib.ListN.{length}
-use Rattle.rules.specs.Numbers.{payloadPlaces, sentPlaces, delimiterPlaces}
-use Rattle.rules.specs.Bits.{bit, run}
-use Rattle.rules.specs.Matrix.{AllHold}
-use Rattle.rules.specs.Table.{fibre}
+use Prim.Native.Nat.{ℕ, _+_, _-_, _<_}
+use Rattle.rules.specs.Bits.{bit, run, Packed}
+use Rattle.rules.specs.Matrix.{checks, payloadPlaces, AllHold}
+use Rattle.rules.specs.Formats.{Format}
 use Rattle.rules.specs.Words.{padded, digit}
 
-abbrev pub completed : ℕ → List ℕ → List ℕ → ℕ → ℕ
-completed K l q = run payloadPlaces (padded K (bit l)) (run sentPlaces (λ n. bit l (K + n)) (bit q))
+abbrev pub completed : Format → ℕ → List ℕ → List ℕ → ℕ → ℕ
+completed f K l q = run (payloadPlaces (f .code)) (padded K (bit l)) (run (f .sent) (λ n. bit l (K + n)) (bit q))
 
-pub record Completes (K : ℕ) (l : List ℕ) (d : ℕ) (q : List ℕ) : Type 0 where
-  pub bytes : length q ≡ 64
-  pub all-hold : AllHold fibre (completed K l q)
-  pub delimiter : (n : ℕ) → n < delimiterPlaces → bit l (K + sentPlaces + n) ≡ digit d n
+pub record Completes (f : Format) (K : ℕ) (l : List ℕ) (d : ℕ) (q : List ℕ) : Type 0 where
+  pub punctured : Packed (checks (f .code) - f .sent) q
+  pub all-hold : AllHold (f .code) (completed f K l q)
+  pub delimiter : (n : ℕ) → n < f .delimiter → bit l (K + f .sent + n) ≡ digit d n

@@ -1,29 +1,57 @@
--- Parts of 32 bytes, turned and added.
+-- Turned blocks added: parts of bytes, and two runs.
 --
 --   part-turned    part j of w, turned by a and added to part i of s, is added at the places of part i
-use mathlib.Core.Path.{_≡_, ap, _∙_}
+--   part-within    so it is where both are parts of the same bytes: what holds of any block
+--   turned-runs    a turned block is two runs
+use mathlib.Core.Path.{_≡_, sym, ap, _∙_}
 use mathlib.Core.List.{List}
-use Prim.Native.Nat.{ℕ, _+_, _*_, _%_, _≤_}
+use Prim.Native.Nat.{ℕ, _+_, _-_, _*_, _%_, _≤_, _<_}
+use native.Mathlib.Nat.{mod-eq-of-lt, add-mod-left}
 use native.Mathlib.Omega.{arith}
 use lib.ListN.{length, take, drop}
-use Rattle.rules.specs.Bits.{bit, zeros, run, placed}
-use Rattle.laws.proofs.Bits.{mid, bit-part}
-use Rattle.laws.proofs.Runs.{run-low, placed-same}
-use Rattle.numbers.specs.Adds.{Adds}
-use Rattle.numbers.proofs.AddsLaws.{adds-as, adds-mid}
-use Rattle.turning.specs.Turning.{turned}
+use Rattle.rules.specs.Bits.{bit, zeros, run, placed, Adds}
+use Rattle.laws.proofs.Bits.{mid, bit-part, bit-drop}
+use Rattle.laws.proofs.Runs.{run-low, placed-join, placed-same}
+use Rattle.laws.proofs.Adds.{adds-as, adds-mid}
+use Rattle.turning.specs.Turning.{turned, partBits, partBytes}
 
-pub part-turned : (s w p : List ℕ) (i j a : ℕ) → 32 * i + 32 ≤ length s
-    → Adds (take 32 (drop (32 * i) s)) p (run 256 (turned 256 (take 32 (drop (32 * j) w)) a) zeros)
-    → Adds s (mid (32 * i) 32 s p) (placed (256 * i) 256 (λ t. bit w (256 * j + (t + a) % 256)))
-part-turned s w p i j a fits q = adds-as places (adds-mid s p (32 * i) 32 _ fits q)
-  where
-    places : (n : ℕ) → placed (8 * (32 * i)) 256 (run 256 (turned 256 (take 32 (drop (32 * j) w)) a) zeros) n
-        ≡ placed (256 * i) 256 (λ t. bit w (256 * j + (t + a) % 256)) n
-    places n =
-        let e : 8 * (32 * i) ≡ 256 * i = omega arith in
-        rw e
-        (placed-same (256 * i) 256 _ _ (λ t h.
-        run-low 256 _ zeros t h
-        ∙ bit-part w (32 * j) 32 ((t + a) % 256) (omega arith)
-        ∙ ap (bit w) (omega arith)) n)
+-- bits at the places of part i that are those of part j, turned by a
+module _ (w : List ℕ) (i j a : ℕ) (f : ℕ → ℕ) where
+  placed-part : ((t : ℕ) → t < partBits → f t ≡ bit w (8 * (partBytes * j) + (t + a) % partBits)) → (n : ℕ)
+      → placed (8 * (partBytes * i)) partBits f n
+      ≡ placed (partBits * i) partBits (λ t. bit w (partBits * j + (t + a) % partBits)) n
+  placed-part same n =
+      let e : 8 * (partBytes * i) ≡ partBits * i = omega arith in
+      rw e (placed-same (partBits * i) partBits f _ (λ t h. same t h ∙ ap (bit w) (omega arith)) n)
+
+pub part-turned : (s w p : List ℕ) (i j a : ℕ) → partBytes * i + partBytes ≤ length s
+    → Adds (take partBytes (drop (partBytes * i) s)) p
+    (run partBits (turned partBits (take partBytes (drop (partBytes * j) w)) a) zeros)
+    → Adds s (mid (partBytes * i) partBytes s p)
+    (placed (partBits * i) partBits (λ t. bit w (partBits * j + (t + a) % partBits)))
+part-turned s w p i j a fits q =
+    adds-as
+    (placed-part w i j a _ (λ t h.
+    run-low partBits _ zeros t h ∙ bit-part w (partBytes * j) partBytes ((t + a) % partBits) (omega arith)))
+    (adds-mid s p (partBytes * i) partBytes _ fits q)
+
+pub part-within : (s t : List ℕ) (i j a : ℕ)
+    → Adds s t (placed (8 * (partBytes * i)) partBits (turned partBits (drop (partBytes * j) s) a))
+    → Adds s t (placed (partBits * i) partBits (λ k. bit s (partBits * j + (k + a) % partBits)))
+part-within s t i j a = adds-as (placed-part s i j a _ (λ k h. bit-drop s (partBytes * j) ((k + a) % partBits)))
+
+pub turned-runs : (x : ℕ → ℕ) (h z a : ℕ) → a < z → (n : ℕ)
+    → placed h (z - a) (λ t. x (a + t)) n + placed (h + (z - a)) a x n ≡ placed h z (λ t. x ((t + a) % z)) n
+turned-runs x h z a l n =
+    let e : z - a + a ≡ z = omega arith in
+    sym
+    (ap (λ (b : ℕ). placed h b (λ t. x ((t + a) % z)) n) (sym e)
+    ∙ placed-join h (z - a) a (λ t. x ((t + a) % z)) n
+    ∙ rw (
+      placed-same h (z - a) (λ t. x ((t + a) % z)) (λ t. x (a + t))
+          (λ t k. ap x (mod-eq-of-lt (omega arith) ∙ omega arith)) n,
+      placed-same (h + (z - a)) a (λ t. x ((z - a + t + a) % z)) x
+          (λ t k.
+          let s : z - a + t + a ≡ z + t = omega arith in
+          ap x (rw s (add-mod-left z t ∙ mod-eq-of-lt (omega arith)))) n,
+    ))

@@ -1,13 +1,13 @@
--- What the functions on quarters promise. A quarter is 64 of a block's 256 bits, as one number, the first bit lowest.
+-- What the functions on quarters promise. A quarter is 64 of a part's bits, as one number, the first bit lowest.
 --
---   HoldsAll q f    the quarters of the block q hold the 256 bits of f
+--   HoldsAll q f    the quarters of the part q hold the bits of f
 --
 -- Nothing here is proved.
 use Prim.Native.Nat.{ℕ, _+_}
 use Rattle.numbers.specs.Numbers.{Holds}
-use Rattle.turning.specs.declared.Block.{Block}
+use Rattle.turning.specs.declared.Part.{Part}
 
-pub record HoldsAll (q : Block) (f : ℕ → ℕ) : Type 0 where
+pub record HoldsAll (q : Part) (f : ℕ → ℕ) : Type 0 where
   pub first : Holds (q .first) (λ k. f (0 + k))
   pub second : Holds (q .second) (λ k. f (64 + k))
   pub third : Holds (q .third) (λ k. f (128 + k))

@@ -60,7 +60,7 @@ fn before_vector(vectors: usize, tally: Tally) -> Reading {
 
 // Whether the payload is encoded into this line word.
 fn is_right(bits: usize, payload: &[u8], delimiter: usize, line: &[u8]) -> bool {
-    let mut made = [0u8; 2121];
+    let mut made = [0u8; rules::fibre::LINE_BYTES];
     let answer = line::encode(bits, payload, delimiter, &mut made);
     match answer {
         Answer::Done => {

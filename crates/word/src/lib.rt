@@ -1,27 +1,31 @@
-// Full words: check one, from any decoder, and complete one's parity in place.
+// Full words of the fibre code: check one, from any decoder, and complete one's parity in place.
 ghost use mathlib.Core.Path.{_≡_};
-ghost use Prim.Native.Nat.{_≤_};
 ghost use lib.ListN.{length};
-ghost use Rattle.rules.specs.Bits.{bit};
+ghost use Rattle.rules.specs.Bits.{bit, need};
+ghost use Rattle.rules.specs.Matrix.{places};
+ghost use Rattle.rules.specs.Table.{fibre};
+ghost use Rattle.rules.specs.Formats.{fibreFormat};
 ghost use Rattle.rules.specs.Verdicts.{WordVerdict};
-ghost use Rattle.rules.specs.Promises.{Completed, WordChecked};
+ghost use Rattle.rules.specs.Asked.{WordAsks};
+ghost use Rattle.rules.specs.Promises.{Completion, Completed, WordChecked};
 use rules::Answer;
 use rules::Cause;
 use rules::Judgement;
 use rules::Verdict;
+use rules::fibre;
 
-// The verdict on a full word: shortened places come first, then the checks. The running checks of all 69 blocks are the
+// The verdict on a full word: shortened places come first, then the checks. The running checks of all blocks are the
 // checks themselves: where none is 1 the word is accepted with no scan, and else their ones are the failing rows.
 fn judge(count: usize, word: &[u8]) -> Verdict
-    requires { ⌜ (count ≤ 14392) × (length (now word) ≡ 2208) ⌝ }
-    ensures { λ r. ⌜ WordVerdict count (bit (now (word .entry))) r ⌝ }
+    requires { ⌜ WordAsks fibreFormat count (now word) ⌝ }
+    ensures { λ r. ⌜ WordVerdict fibre count (bit (now (word .entry))) r ⌝ }
 {
-    let place = bits::first_set(word, count, 14592);
-    if place < 14592 {
+    let place = bits::first_set(word, count, fibre::PAYLOAD_PLACES);
+    if place < fibre::PAYLOAD_PLACES {
         return Verdict::Rejected(Cause::Shortened(place));
     }
-    let mut checks = [0u8; 384];
-    running::add_blocks(&mut checks, word, 0, 69);
+    let mut checks = [0u8; fibre::PARITY_BYTES];
+    running::fibre::add_blocks(&mut checks, word, 0, fibre::COLUMNS);
     let failing = bits::count_ones(&checks);
     if failing == 0 {
         return Verdict::Accepted;
@@ -35,7 +39,7 @@ fn judge(count: usize, word: &[u8]) -> Verdict
 
 // Checks a full word with so many payload bits.
 pub fn check(count: usize, word: &[u8]) -> Judgement
-    ensures { λ r. ⌜ WordChecked count (now (word .entry)) r ⌝ }
+    ensures { λ r. ⌜ WordChecked fibreFormat count (now (word .entry)) r ⌝ }
 {
     let refusal = refusals::check_word(count, word);
     if refusal != 0 {
@@ -44,16 +48,24 @@ pub fn check(count: usize, word: &[u8]) -> Judgement
     Judgement::Judged(judge(count, word))
 }
 
-// Completes a full word: only the part from byte 1,824 on, its parity, is lent to be written.
+// Writes the parity of a full word: only the part from byte 1,824 on, its parity, is lent to be written.
+fn write_parity(word: &mut [u8])
+    requires { ⌜ length (now word) ≡ need (places fibre) ⌝ }
+    ensures { λ _. ⌜ Completion fibre (now (word .entry)) (now (word .exit)) ⌝ }
+{
+    let mut checks = [0u8; fibre::PARITY_BYTES];
+    running::fibre::add_blocks(&mut checks, word, 0, fibre::PAYLOAD_COLUMNS);
+    parity::solve(&checks, &mut word[fibre::PAYLOAD_BYTES..]);
+}
+
+// Completes a full word with so many payload bits.
 pub fn complete(count: usize, word: &mut [u8]) -> Answer
-    ensures { λ r. ⌜ Completed count (now (word .entry)) r (now (word .exit)) ⌝ }
+    ensures { λ r. ⌜ Completed fibreFormat count (now (word .entry)) r (now (word .exit)) ⌝ }
 {
     let refusal = refusals::complete(count, word);
     if refusal != 0 {
         return Answer::Refused(refusal);
     }
-    let mut checks = [0u8; 384];
-    running::add_blocks(&mut checks, word, 0, 57);
-    parity::solve(&checks, &mut word[1824..]);
+    write_parity(word);
     Answer::Done
 }

@@ -1,4 +1,4 @@
--- A line word, written by adding runs to cleared bytes.
+-- A line word of any format, written by adding runs to cleared bytes.
 --
 --   written-cleared    cleared bytes are written with zeros
 --   written-added      what is added to written bits, below their end, is written with them
@@ -12,11 +12,12 @@ use native.Mathlib.Omega.{arith}
 use lib.Dec.{lit<}
 use lib.ListN.{length, drop, replicate, length-drop, length-append, length-replicate}
 use lib.Seq.{getD-drop, drop-at}
-use Rattle.rules.specs.Bits.{bit, Bytes, need, zeros, run, placed, Written}
-use Rattle.rules.specs.Words.{digit, padded, tail, tailBits, lineWord, lineBits}
+use Rattle.rules.specs.Bits.{bit, Bytes, need, zeros, run, placed, Written, Adds}
+use Rattle.rules.specs.Formats.{Format}
+use Rattle.rules.specs.Words.{padded, tail, tailBits, lineWord, lineBits}
 use Rattle.laws.proofs.Bits.{bit<, bit-drop, bit-cleared, bits-same}
 use Rattle.laws.proofs.Runs.{run-low, run-high, run-each, run-below, run-none, placed-below, placed-in, placed-above}
-use Rattle.numbers.specs.Adds.{Adds}
+use Rattle.laws.proofs.Tails.{tail-bits}
 
 pub written-cleared : (b : ℕ) (s t : List ℕ) (k : ℕ) → k ≡ need b → k ≤ length s → t ≡ replicate k 0 ++ drop k s
     → Written b zeros s t
@@ -59,16 +60,10 @@ module _ {b : ℕ} {x y f : ℕ → ℕ} {s t u : List ℕ} (w : Written b x s t
         ∙ w .after;
   }
 
-tail-below : (p : List ℕ) (d n : ℕ) → tail p d n < 2
-tail-below p d =
-    run-below 2560 (bit p) (run 10 (digit d) zeros) (λ n l. bit< p n)
-    (run-below 10 (digit d) zeros (λ n l. omega arith) (λ n. lit< tt))
-
 module _ (s t u : List ℕ) (bt : Bytes t) (bu : Bytes u) where
-  pub payload-written : (K : ℕ) (x : ℕ → ℕ) → ((n : ℕ) → x n < 2) → Written (lineBits K) zeros s t
-      → Adds t u (placed 0 K x)
-      → Written (lineBits K) (padded K x) s u
-  payload-written K x bits w a =
+  pub payload-written : (b K : ℕ) (x : ℕ → ℕ) → K ≤ b → ((n : ℕ) → x n < 2) → Written b zeros s t
+      → Adds t u (placed 0 K x) → Written b (padded K x) s u
+  payload-written b K x less bits w a =
       written-added w a (λ n l. omega (arith, alone n, below n)) (λ n l. placed-above 0 K x n (omega arith)) bt bu
     where
       alone : (n : ℕ) → placed 0 K x n ≡ padded K x n
@@ -77,23 +72,24 @@ module _ (s t u : List ℕ) (bt : Bytes t) (bu : Bytes u) where
       below : (n : ℕ) → padded K x n < 2
       below = run-below K x zeros (λ n l. bits n) (λ n. lit< tt)
 
-  pub tail-written : (p : List ℕ) (d : ℕ) → Written tailBits zeros s t → Adds t u (placed 0 tailBits (tail p d))
-      → Written tailBits (tail p d) s u
-  tail-written p d w a =
-      written-added w a
-      (λ n l. let e : n - 0 ≡ n = omega arith in rw (placed-in 0 tailBits (tail p d) n (omega arith) l, e)
-      (omega (arith, tail-below p d n)))
-      (λ n l. placed-above 0 tailBits (tail p d) n (omega arith)) bt bu
+  module _ (f : Format) (p : List ℕ) (d : ℕ) where
+    pub tail-written : Written (tailBits f) zeros s t → Adds t u (placed 0 (tailBits f) (tail f p d))
+        → Written (tailBits f) (tail f p d) s u
+    tail-written w a =
+        written-added w a
+        (λ n l. let e : n - 0 ≡ n = omega arith in
+        rw (placed-in 0 (tailBits f) (tail f p d) n (omega arith) (omega arith), e) (omega (arith, tail-bits f p d n)))
+        (λ n l. placed-above 0 (tailBits f) (tail f p d) n (omega arith)) bt bu
 
-  pub line-written : (K : ℕ) (x : ℕ → ℕ) (p : List ℕ) (d : ℕ) → ((n : ℕ) → x n < 2)
-      → Written (lineBits K) (padded K x) s t
-      → Adds t u (placed K tailBits (tail p d)) → Written (lineBits K) (lineWord K x p d) s u
-  line-written K x p d bits w a =
-      written-added w a joined (λ n l. placed-above K tailBits (tail p d) n (omega arith)) bt bu
-    where
-      joined : (n : ℕ) → n < lineBits K → (padded K x n + placed K tailBits (tail p d) n) % 2 ≡ lineWord K x p d n
-      joined n l =
-          run-each K x (tail p d) n (λ v. (padded K x n + placed K tailBits (tail p d) n) % 2 ≡ v)
-          (λ h. rw (run-low K x zeros n h, placed-below K tailBits (tail p d) n h) (omega (arith, bits n)))
-          (λ h. rw (run-high K x zeros n h, placed-in K tailBits (tail p d) n h l)
-          (omega (arith, tail-below p d (n - K))))
+    pub line-written : (K : ℕ) (x : ℕ → ℕ) → ((n : ℕ) → x n < 2) → Written (lineBits f K) (padded K x) s t
+        → Adds t u (placed K (tailBits f) (tail f p d)) → Written (lineBits f K) (lineWord f K x p d) s u
+    line-written K x bits w a =
+        written-added w a joined (λ n l. placed-above K (tailBits f) (tail f p d) n (omega arith)) bt bu
+      where
+        joined : (n : ℕ) → n < lineBits f K
+            → (padded K x n + placed K (tailBits f) (tail f p d) n) % 2 ≡ lineWord f K x p d n
+        joined n l =
+            run-each K x (tail f p d) n (λ v. (padded K x n + placed K (tailBits f) (tail f p d) n) % 2 ≡ v)
+            (λ h. rw (run-low K x zeros n h, placed-below K (tailBits f) (tail f p d) n h) (omega (arith, bits n)))
+            (λ h. rw (run-high K x zeros n h, placed-in K (tailBits f) (tail f p d) n h l)
+            (omega (arith, tail-bits f p d (n - K))))

@@ -1,35 +1,45 @@
--- The tail of a line word, added in two runs.
+-- The tail of a line word, added in two runs. Any format with a delimiter of no more than sixteen bits.
 --
---   digits-right    the first ten bits of the delimiter's bytes are the delimiter's
+--   digits-right    the bits of the delimiter's bytes are the delimiter's
 --   tail-added      the sent parity and then the delimiter's bits, added one after the other, are the tail
-use mathlib.Core.Path.{_≡_, sym, _∙_}
-use mathlib.Core.Bool.{Bool}
+use mathlib.Core.Path.{_≡_, sym, ap, _∙_}
 use mathlib.Core.List.{List}
-use Prim.Native.Nat.{ℕ, _+_, _≤_, _<_}
+use Prim.Native.Nat.{ℕ, _+_, _-_, _*_, _/_, _≤_, _<_}
+use native.Mathlib.Decide.{decLt}
 use native.Mathlib.Omega.{arith}
-use lib.Dec.{eqb, eqb→eq}
-use Rattle.rules.specs.Bits.{bit, placed}
-use Rattle.rules.specs.Words.{digit, tail}
-use Rattle.rules.proofs.Tests.{every, every-at}
+use Rattle.rules.specs.Bits.{bit, placed, Adds}
+use Rattle.rules.specs.Formats.{Format}
+use Rattle.rules.specs.Words.{digit, tail, tailBits}
+use Rattle.laws.proofs.Adds.{adds-join, adds-as}
+use Rattle.laws.proofs.Bits.{bit-digit}
+use Rattle.laws.proofs.Numbers.{digit-low, digit-right}
 use Rattle.laws.proofs.Runs.{placed-same}
 use Rattle.laws.proofs.Tails.{tail-low, tail-high}
-use Rattle.numbers.specs.Adds.{Adds}
-use Rattle.numbers.proofs.AddsLaws.{adds-join, adds-as}
 use Rattle.writing.specs.Digits.{digitBytes}
 
-rightAt : ℕ → ℕ → Bool
-rightAt d t = eqb (bit (digitBytes d) t) (digit d t)
+pub digits-right : (d t : ℕ) → t < 16 → bit (digitBytes d) t ≡ digit d t
+digits-right d t h = elim (decLt t 8) [
+  | yes l ↦
+      let e : t ≡ 8 * 0 + t = omega arith in
+      ap (bit (digitBytes d)) e ∙ bit-digit (digitBytes d) 0 t l ∙ digit-low d 8 t l
+  | no l ↦
+      let e : t ≡ 8 * 1 + (t - 8) = omega arith in
+      let back : t - 8 + 8 ≡ t = omega arith in
+      ap (bit (digitBytes d)) e
+      ∙ bit-digit (digitBytes d) 1 (t - 8) (omega arith)
+      ∙ digit-low (d / 256) 8 (t - 8) (omega arith)
+      ∙ digit-right d 8 (t - 8)
+      ∙ ap (digit d) back
+]
 
-pub digits-right : (d t : ℕ) → d ≤ 1023 → t < 10 → bit (digitBytes d) t ≡ digit d t
-unfolding rightAt
-digits-right d t hd ht =
-    eqb→eq _ _ (every-at 10 (rightAt d) (every-at 1024 (λ d. every 10 (rightAt d)) tt d (omega arith)) t ht)
-
-module _ (p : List ℕ) (d : ℕ) where
-  pub tail-added : {s t u : List ℕ} (at : ℕ) → d ≤ 1023 → Adds s t (placed at 2560 (λ k. bit p (0 + k)))
-      → Adds t u (placed (at + 2560) 10 (λ k. bit (digitBytes d) (0 + k))) → Adds s u (placed at 2570 (tail p d))
-  tail-added at h a b =
-      adds-join at 2560 10 (tail p d)
-      (adds-as (placed-same at 2560 _ _ (λ k l. let z : 0 + k ≡ k = omega arith in rw z (sym (tail-low p d k l)))) a)
-      (adds-as (placed-same (at + 2560) 10 _ _
-      (λ k l. let z : 0 + k ≡ k = omega arith in rw z (digits-right d k h l ∙ sym (tail-high p d k l)))) b)
+module _ (f : Format) (few : f .delimiter ≤ 16) (p : List ℕ) (d : ℕ) where
+  pub tail-added : {s t u : List ℕ} (at : ℕ) → Adds s t (placed at (f .sent) (λ k. bit p (0 + k)))
+      → Adds t u (placed (at + f .sent) (f .delimiter) (λ k. bit (digitBytes d) (0 + k)))
+      → Adds s u (placed at (tailBits f) (tail f p d))
+  tail-added at a b =
+      adds-join at (f .sent) (f .delimiter) (tail f p d)
+      (adds-as (placed-same at (f .sent) _ _
+      (λ k l. let z : 0 + k ≡ k = omega arith in rw z (sym (tail-low f p d k l)))) a)
+      (adds-as (placed-same (at + f .sent) (f .delimiter) _ _
+      (λ k l. let z : 0 + k ≡ k = omega arith in
+      rw z (digits-right d k (omega arith) ∙ sym (tail-high f p d k l)))) b)

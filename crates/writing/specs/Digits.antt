@@ -1,6 +1,6 @@
 -- A delimiter as bytes.
 --
---   digitBytes d    the two bytes whose first ten bits are those of the delimiter d, the low one first
+--   digitBytes d    the two bytes whose bits are the lowest sixteen of the delimiter d, the low one first
 --
 -- Nothing here is proved.
 use mathlib.Core.List.{List, [], _∷_}

@@ -4,20 +4,21 @@
 ghost use mathlib.Core.Path.{_≡_};
 ghost use Prim.Native.Nat.{_+_, _*_, _≤_};
 ghost use lib.ListN.{length};
-ghost use Rattle.rules.specs.Bits.{bit, need, placed, Written};
-ghost use Rattle.rules.specs.Words.{padded, tail, tailBits, lineBits};
-ghost use Rattle.numbers.specs.Adds.{Adds};
+ghost use Rattle.rules.specs.Bits.{bit, need, placed, Written, Adds};
+ghost use Rattle.rules.specs.Formats.{fibreFormat};
+ghost use Rattle.rules.specs.Words.{padded, tail, tailBits};
 ghost use Rattle.writing.specs.Digits.{digitBytes};
+use rules::fibre;
 
-// Begins a line word: the payload's bits, and zeros where its tail will be.
-pub fn write_payload(line: &mut [u8], count: usize, payload: &[u8])
-    requires { ⌜ (count ≤ 14392) × (count ≤ 8 * length (now payload)) × (need (count + 2570) ≤ length (now line)) ⌝ }
+// Begins a word of `all` bits: the payload's bits, and zeros where its tail will be. For any code.
+pub fn write_payload(line: &mut [u8], all: usize, count: usize, payload: &[u8])
+    requires { ⌜ (count ≤ all) × (count ≤ 8 * length (now payload)) × (need all ≤ length (now line)) ⌝ }
     ensures { λ r. ⌜
-        Written (lineBits count) (padded count (bit (now (payload .entry)))) (now (line .entry)) (now (line .exit))
+        Written all (padded count (bit (now (payload .entry)))) (now (line .entry)) (now (line .exit))
         ⌝ }
 {
-    bits::clear(line, bits::needed(count + 2570));
-    bits::add_run(line, 0, payload, 0, count);
+    bits::clear(line, bits::needed(all));
+    bits::put_first(line, payload, count);
 }
 
 // The delimiter's bits, the lowest first.
@@ -29,25 +30,36 @@ pub fn digits_of(delimiter: usize) -> [u8; 2]
     [low, high]
 }
 
-// Adds the tail, the sent parity and then the delimiter, to the bits from `at` on.
+// Adds the fibre code's tail, the sent parity and then the delimiter, to the bits from `at` on.
 pub fn add_tail(line: &mut [u8], at: usize, parity: &[u8], delimiter: usize)
     requires { ⌜
-        (at ≤ 14392) × (at + 2570 ≤ 8 * length (now line)) × (length (now parity) ≡ 384) × (delimiter ≤ 1023)
+        (at ≤ fibreFormat .most) × (at + tailBits fibreFormat ≤ 8 * length (now line))
+        × (fibreFormat .sent ≤ 8 * length (now parity))
         ⌝ }
     ensures { λ r. ⌜
-        Adds (now (line .entry)) (now (line .exit)) (placed at 2570 (tail (now (parity .entry)) delimiter))
+        Adds (now (line .entry)) (now (line .exit))
+        (placed at (tailBits fibreFormat) (tail fibreFormat (now (parity .entry)) delimiter))
         ⌝ }
 {
-    bits::add_run(line, at, parity, 0, 2560);
+    bits::add_run(line, at, parity, 0, fibre::SENT_PLACES);
     let digits = digits_of(delimiter);
-    bits::add_run(line, at + 2560, &digits, 0, 10);
+    bits::add_run(
+        line,
+        at + fibre::SENT_PLACES,
+        &digits,
+        0,
+        fibre::DELIMITER_PLACES,
+    );
 }
 
-// Writes the tail.
-pub fn write_tail(line: &mut [u8], parity: &[u8], delimiter: usize)
-    requires { ⌜ (322 ≤ length (now line)) × (length (now parity) ≡ 384) × (delimiter ≤ 1023) ⌝ }
-    ensures { λ r. ⌜ Written tailBits (tail (now (parity .entry)) delimiter) (now (line .entry)) (now (line .exit)) ⌝ }
+// Writes the tail alone.
+pub fn write_tail(to: &mut [u8], parity: &[u8], delimiter: usize)
+    requires { ⌜ (need (tailBits fibreFormat) ≤ length (now to)) × (fibreFormat .sent ≤ 8 * length (now parity)) ⌝ }
+    ensures { λ r. ⌜
+        Written (tailBits fibreFormat) (tail fibreFormat (now (parity .entry)) delimiter)
+        (now (to .entry)) (now (to .exit))
+        ⌝ }
 {
-    bits::clear(line, 322);
-    add_tail(line, 0, parity, delimiter);
+    bits::clear(to, fibre::TAIL_BYTES);
+    add_tail(to, 0, parity, delimiter);
 }

@@ -3,10 +3,9 @@ use borrow.Author.Needs.{needs}
 use mathlib.Core.Path.{_≡_}
 use Prim.Native.Nat.{_+_, _-_, _*_, _/_, _%_, _≤_}
 use native.Mathlib.Omega.{arith}
-use Rattle.rules.specs.Bits.{bit, placed}
+use Rattle.rules.specs.Bits.{bit, placed, Adds}
 use Rattle.laws.proofs.Runs.{placed-none}
-use Rattle.numbers.specs.Adds.{Adds}
-use Rattle.numbers.proofs.AddsLaws.{adds-none}
+use Rattle.laws.proofs.Adds.{adds-none}
 use Rattle.bits.proofs.Moving.{at-place, adds-number}
 use Rattle.bits.proofs.add_run.Statement.{statement}
 use Rattle.bits.proofs.add_run.Tie as tie
@@ -20,30 +19,6 @@ abbrev μ-loop : tie.MeasureT-loop
 
 loop-holds : tie.Need-loop-holds Inv-loop μ-loop
 loop-holds c = (search needs, search needs, adds-none _ _ (placed-none _ _))
-
-mul-number-at : tie.Need-mul-number-at Inv-loop μ-loop
-mul-number-at c = search needs
-
-add-number-at : tie.Need-add-number-at Inv-loop μ-loop
-add-number-at c = search needs
-
-number-at-requires : tie.Need-number-at-requires Inv-loop μ-loop
-number-at-requires c κs = search needs
-
-mul-add-number : tie.Need-mul-add-number Inv-loop μ-loop
-mul-add-number c = search needs
-
-add-add-number : tie.Need-add-add-number Inv-loop μ-loop
-add-add-number c = search needs
-
-add-number-requires : tie.Need-add-number-requires Inv-loop μ-loop
-add-number-requires c κs = search needs
-
-add-k : tie.Need-add-k Inv-loop μ-loop
-add-k c = search needs
-
-loop-less : tie.Need-loop-less Inv-loop μ-loop
-loop-less c = search needs
 
 loop-again : tie.Need-loop-again Inv-loop μ-loop
 loop-again c =
@@ -59,35 +34,11 @@ loop-again c =
           (adds-number _ (a .at) k 64 (omega arith) (l .loop .inv .2) here (c .before .before .add-number .ensures)),
     )
 
-same-length : tie.Need-same-length Inv-loop μ-loop
-same-length c = search needs
-
 returns : tie.Need-returns Inv-loop μ-loop
 returns c =
     let l = c .before .before in
     let e : 64 * l .loop .k ≡ l .before .before .before .args .count = omega arith in
     rw e at (l .loop .inv .2)
-
-mul-rest-at : tie.Need-mul-rest-at Inv-loop μ-loop
-mul-rest-at c = search needs
-
-add-rest-at : tie.Need-add-rest-at Inv-loop μ-loop
-add-rest-at c = search needs
-
-rest-at-requires : tie.Need-rest-at-requires Inv-loop μ-loop
-rest-at-requires c κs = search needs
-
-mul-add-rest : tie.Need-mul-add-rest Inv-loop μ-loop
-mul-add-rest c = search needs
-
-add-add-rest : tie.Need-add-add-rest Inv-loop μ-loop
-add-add-rest c = search needs
-
-add-rest-requires : tie.Need-add-rest-requires Inv-loop μ-loop
-add-rest-requires c κs = search needs
-
-same-length-2 : tie.Need-same-length-2 Inv-loop μ-loop
-same-length-2 c = search needs
 
 returns-2 : tie.Need-returns-2 Inv-loop μ-loop
 returns-2 c =
@@ -105,26 +56,7 @@ returns-2 c =
 pub add-run-spec : {M : Type 1} → statement M
 add-run-spec =
     tie.close
-    (tie.spec
-    Inv-loop
-    μ-loop
-    loop-holds
-    mul-number-at
-    add-number-at
-    number-at-requires
-    mul-add-number
-    add-add-number
-    add-number-requires
-    add-k
-    loop-less
-    loop-again
-    same-length
-    returns
-    mul-rest-at
-    add-rest-at
-    rest-at-requires
-    mul-add-rest
-    add-add-rest
-    add-rest-requires
-    same-length-2
-    returns-2)
+    (tie.spec Inv-loop μ-loop loop-holds (λ c. search needs) (λ c. search needs) (λ c κs. search needs)
+    (λ c. search needs) (λ c. search needs) (λ c κs. search needs) (λ c. search needs) (λ c. search needs) loop-again
+    (λ c. search needs) returns (λ c. search needs) (λ c. search needs) (λ c κs. search needs) (λ c. search needs)
+    (λ c. search needs) (λ c κs. search needs) (λ c. search needs) returns-2)

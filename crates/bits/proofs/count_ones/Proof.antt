@@ -20,15 +20,6 @@ loop-holds : tie.Need-loop-holds Inv-loop μ-loop
 unfolding total
 loop-holds c = (search needs, search needs, refl)
 
-mul-load : tie.Need-mul-load Inv-loop μ-loop
-mul-load c = search needs
-
-load-requires : tie.Need-load-requires Inv-loop μ-loop
-load-requires c κs = search needs
-
-ones-in-requires : tie.Need-ones-in-requires Inv-loop μ-loop
-ones-in-requires c κs = search needs
-
 add-count : tie.Need-add-count Inv-loop μ-loop
 add-count c =
     let l = c .before .before .before in
@@ -37,12 +28,6 @@ add-count c =
     let more = ones-more s k (l .loop .count) _ (l .loop .inv .2) (omega arith) (c .before .load .ensures)
     (c .ones-in .ensures) in
     omega (arith, more, ones-below s (64 * (k + 1)), l .before .before .pre)
-
-add-k : tie.Need-add-k Inv-loop μ-loop
-add-k c = search needs
-
-loop-less : tie.Need-loop-less Inv-loop μ-loop
-loop-less c = search needs
 
 loop-again : tie.Need-loop-again Inv-loop μ-loop
 loop-again c =
@@ -53,15 +38,6 @@ loop-again c =
       ones-more s (l .loop .k) (l .loop .count) _ (l .loop .inv .2) (omega arith) (c .before .load .ensures)
           (c .ones-in .ensures),
     )
-
-mul-rest-at : tie.Need-mul-rest-at Inv-loop μ-loop
-mul-rest-at c = search needs
-
-rest-at-requires : tie.Need-rest-at-requires Inv-loop μ-loop
-rest-at-requires c κs = search needs
-
-ones-in-requires-2 : tie.Need-ones-in-requires-2 Inv-loop μ-loop
-ones-in-requires-2 c κs = search needs
 
 -- the rest reaches past the end, so with it all ones are counted
 counted : tie.Need-returns Inv-loop μ-loop
@@ -84,19 +60,6 @@ returns c = counted c
 pub count-ones-spec : {M : Type 1} → statement M
 count-ones-spec =
     tie.close
-    (tie.spec
-    Inv-loop
-    μ-loop
-    loop-holds
-    mul-load
-    load-requires
-    ones-in-requires
-    add-count
-    add-k
-    loop-less
-    loop-again
-    mul-rest-at
-    rest-at-requires
-    ones-in-requires-2
-    add-result
-    returns)
+    (tie.spec Inv-loop μ-loop loop-holds (λ c. search needs) (λ c κs. search needs) (λ c κs. search needs) add-count
+    (λ c. search needs) (λ c. search needs) loop-again (λ c. search needs) (λ c κs. search needs)
+    (λ c κs. search needs) add-result returns)

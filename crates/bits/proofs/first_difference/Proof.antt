@@ -22,33 +22,6 @@ abbrev μ-loop : tie.MeasureT-loop
 loop-holds : tie.Need-loop-holds Inv-loop μ-loop
 loop-holds c = (search needs, search needs, clear-none _)
 
-mul-number-at : tie.Need-mul-number-at Inv-loop μ-loop
-mul-number-at c = search needs
-
-add-number-at : tie.Need-add-number-at Inv-loop μ-loop
-add-number-at c = search needs
-
-number-at-requires : tie.Need-number-at-requires Inv-loop μ-loop
-number-at-requires c κs = search needs
-
-mul-number-at-2 : tie.Need-mul-number-at-2 Inv-loop μ-loop
-mul-number-at-2 c = search needs
-
-add-number-at-2 : tie.Need-add-number-at-2 Inv-loop μ-loop
-add-number-at-2 c = search needs
-
-number-at-requires-2 : tie.Need-number-at-requires-2 Inv-loop μ-loop
-number-at-requires-2 c κs = search needs
-
-mul-result : tie.Need-mul-result Inv-loop μ-loop
-mul-result c = search needs
-
-lowest-one-requires : tie.Need-lowest-one-requires Inv-loop μ-loop
-lowest-one-requires c κs = search needs
-
-add-result : tie.Need-add-result Inv-loop μ-loop
-add-result c = search needs
-
 returns : tie.Need-returns Inv-loop μ-loop
 returns c =
     let read = c .before .before in
@@ -62,12 +35,6 @@ returns c =
     (one-found _ k (l .loop .inv .2) (number-sum here there) (a .count) small (c .before .if1 .taken)
     (c .lowest-one .ensures) (omega arith))
 
-add-k : tie.Need-add-k Inv-loop μ-loop
-add-k c = search needs
-
-loop-less : tie.Need-loop-less Inv-loop μ-loop
-loop-less c = search needs
-
 loop-again : tie.Need-loop-again Inv-loop μ-loop
 loop-again c =
     let read = c .before in
@@ -77,33 +44,6 @@ loop-again c =
     let here = at-place (a .s .now) (a .at) k (read .before .number-at .ensures) in
     let there = at-place (a .other .now) (a .start) k (read .number-at2 .ensures) in
     (search needs, search needs, clear-more _ k (l .loop .inv .2) (number-sum here there) (c .if1 .left))
-
-mul-rest-at : tie.Need-mul-rest-at Inv-loop μ-loop
-mul-rest-at c = search needs
-
-add-rest-at : tie.Need-add-rest-at Inv-loop μ-loop
-add-rest-at c = search needs
-
-rest-at-requires : tie.Need-rest-at-requires Inv-loop μ-loop
-rest-at-requires c κs = search needs
-
-mul-rest-at-2 : tie.Need-mul-rest-at-2 Inv-loop μ-loop
-mul-rest-at-2 c = search needs
-
-add-rest-at-2 : tie.Need-add-rest-at-2 Inv-loop μ-loop
-add-rest-at-2 c = search needs
-
-rest-at-requires-2 : tie.Need-rest-at-requires-2 Inv-loop μ-loop
-rest-at-requires-2 c κs = search needs
-
-lowest-one-requires-2 : tie.Need-lowest-one-requires-2 Inv-loop μ-loop
-lowest-one-requires-2 c κs = search needs
-
-mul-result-2 : tie.Need-mul-result-2 Inv-loop μ-loop
-mul-result-2 c = search needs
-
-add-result-2 : tie.Need-add-result-2 Inv-loop μ-loop
-add-result-2 c = search needs
 
 returns-2 : tie.Need-returns-2 Inv-loop μ-loop
 returns-2 c =
@@ -130,31 +70,8 @@ returns-3 c =
 pub first-difference-spec : {M : Type 1} → statement M
 first-difference-spec =
     tie.close
-    (tie.spec
-    Inv-loop
-    μ-loop
-    loop-holds
-    mul-number-at
-    add-number-at
-    number-at-requires
-    mul-number-at-2
-    add-number-at-2
-    number-at-requires-2
-    mul-result
-    lowest-one-requires
-    add-result
-    returns
-    add-k
-    loop-less
-    loop-again
-    mul-rest-at
-    add-rest-at
-    rest-at-requires
-    mul-rest-at-2
-    add-rest-at-2
-    rest-at-requires-2
-    lowest-one-requires-2
-    mul-result-2
-    add-result-2
-    returns-2
-    returns-3)
+    (tie.spec Inv-loop μ-loop loop-holds (λ c. search needs) (λ c. search needs) (λ c κs. search needs)
+    (λ c. search needs) (λ c. search needs) (λ c κs. search needs) (λ c. search needs) (λ c κs. search needs)
+    (λ c. search needs) returns (λ c. search needs) (λ c. search needs) loop-again (λ c. search needs)
+    (λ c. search needs) (λ c κs. search needs) (λ c. search needs) (λ c. search needs) (λ c κs. search needs)
+    (λ c κs. search needs) (λ c. search needs) (λ c. search needs) returns-2 returns-3)

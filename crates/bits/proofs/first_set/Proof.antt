@@ -15,32 +15,8 @@ Inv-loop s from to whole k₀ k = (k ≤ whole) × (whole ≡ (to - from) / 64) 
 abbrev μ-loop : tie.MeasureT-loop
 μ-loop s from to whole k₀ k = whole - k
 
-sub-whole : tie.Need-sub-whole Inv-loop μ-loop
-sub-whole c = search needs
-
 loop-holds : tie.Need-loop-holds Inv-loop μ-loop
 loop-holds c = (search needs, search needs, clear-none _)
-
-mul-number-at : tie.Need-mul-number-at Inv-loop μ-loop
-mul-number-at c = search needs
-
-add-number-at : tie.Need-add-number-at Inv-loop μ-loop
-add-number-at c = search needs
-
-number-at-requires : tie.Need-number-at-requires Inv-loop μ-loop
-number-at-requires c κs = search needs
-
-mul-result : tie.Need-mul-result Inv-loop μ-loop
-mul-result c = search needs
-
-add-result : tie.Need-add-result Inv-loop μ-loop
-add-result c = search needs
-
-lowest-one-requires : tie.Need-lowest-one-requires Inv-loop μ-loop
-lowest-one-requires c κs = search needs
-
-add-result-2 : tie.Need-add-result-2 Inv-loop μ-loop
-add-result-2 c = search needs
 
 returns : tie.Need-returns Inv-loop μ-loop
 returns c =
@@ -53,12 +29,6 @@ returns c =
     (one-found _ (l .loop .k) (l .loop .inv .2) here (a .to - a .from) (search needs) (c .before .if1 .taken)
     (c .lowest-one .ensures) (omega arith))
 
-add-k : tie.Need-add-k Inv-loop μ-loop
-add-k c = search needs
-
-loop-less : tie.Need-loop-less Inv-loop μ-loop
-loop-less c = search needs
-
 loop-again : tie.Need-loop-again Inv-loop μ-loop
 loop-again c =
     let read = c .before in
@@ -70,30 +40,6 @@ loop-again c =
       clear-more _ k (l .loop .inv .2)
           (at-place (a .s .now) (a .from) k (read .number-at .ensures)) (c .if1 .left),
     )
-
-mul-rest-at : tie.Need-mul-rest-at Inv-loop μ-loop
-mul-rest-at c = search needs
-
-add-rest-at : tie.Need-add-rest-at Inv-loop μ-loop
-add-rest-at c = search needs
-
-rest-at-requires : tie.Need-rest-at-requires Inv-loop μ-loop
-rest-at-requires c κs = search needs
-
-lowest-one-requires-2 : tie.Need-lowest-one-requires-2 Inv-loop μ-loop
-lowest-one-requires-2 c κs = search needs
-
-sub-if2 : tie.Need-sub-if2 Inv-loop μ-loop
-sub-if2 c = search needs
-
-mul-result-2 : tie.Need-mul-result-2 Inv-loop μ-loop
-mul-result-2 c = search needs
-
-add-result-3 : tie.Need-add-result-3 Inv-loop μ-loop
-add-result-3 c = search needs
-
-add-result-4 : tie.Need-add-result-4 Inv-loop μ-loop
-add-result-4 c = search needs
 
 returns-2 : tie.Need-returns-2 Inv-loop μ-loop
 returns-2 c =
@@ -120,29 +66,8 @@ returns-3 c =
 pub first-set-spec : {M : Type 1} → statement M
 first-set-spec =
     tie.close
-    (tie.spec
-    Inv-loop
-    μ-loop
-    sub-whole
-    loop-holds
-    mul-number-at
-    add-number-at
-    number-at-requires
-    mul-result
-    add-result
-    lowest-one-requires
-    add-result-2
-    returns
-    add-k
-    loop-less
-    loop-again
-    mul-rest-at
-    add-rest-at
-    rest-at-requires
-    lowest-one-requires-2
-    sub-if2
-    mul-result-2
-    add-result-3
-    add-result-4
-    returns-2
+    (tie.spec Inv-loop μ-loop (λ c. search needs) loop-holds (λ c. search needs) (λ c. search needs)
+    (λ c κs. search needs) (λ c. search needs) (λ c. search needs) (λ c κs. search needs) (λ c. search needs) returns
+    (λ c. search needs) (λ c. search needs) loop-again (λ c. search needs) (λ c. search needs) (λ c κs. search needs)
+    (λ c κs. search needs) (λ c. search needs) (λ c. search needs) (λ c. search needs) (λ c. search needs) returns-2
     returns-3)

@@ -4,9 +4,6 @@ use Rattle.host.proofs.Fits.{word-fits}
 use Rattle.host.proofs.birdovesta_check_word.Statement.{statement}
 use Rattle.host.proofs.birdovesta_check_word.Tie as tie
 
-check-requires : tie.Need-check-requires
-check-requires c κs = search needs
-
 judgement-number-requires : tie.Need-judgement-number-requires
 judgement-number-requires c κs =
     let a = c .before .before .args in
@@ -14,7 +11,8 @@ judgement-number-requires c κs =
 
 returns : tie.Need-returns
 returns c =
-    record { judgement = c .before .check .result; checked = c .before .check .ensures; result = c .judgement-number .ensures }
+    let j = c .before .check in
+    record { judgement = j .result; checked = j .ensures; result = c .judgement-number .ensures }
 
 pub birdovesta-check-word-spec : {M : Type 1} → statement M
-birdovesta-check-word-spec = tie.close (tie.spec check-requires judgement-number-requires returns)
+birdovesta-check-word-spec = tie.close (tie.spec (λ c κs. search needs) judgement-number-requires returns)

@@ -6,14 +6,8 @@ use Rattle.host.specs.Numbers.{causeNumber, CauseFits}
 use Rattle.host.proofs.cause_number.Statement.{statement}
 use Rattle.host.proofs.cause_number.Tie as tie
 
-enum-known-cause : tie.Need-enum-known-cause
-enum-known-cause c = search needs
-
 add-result : tie.Need-add-result
 add-result c = omega (arith, subst CauseFits (c .before .cause .given .1) (c .before .before .before .pre))
-
-enum-known-cause-2 : tie.Need-enum-known-cause-2
-enum-known-cause-2 c = search needs
 
 mul-result : tie.Need-mul-result
 mul-result c = omega (arith, subst CauseFits (c .before .cause2 .given .1) (c .before .before .before .pre))
@@ -24,14 +18,8 @@ add-result-2 c = omega (arith, subst CauseFits (c .before .cause2 .given .1) (c 
 add-result-3 : tie.Need-add-result-3
 add-result-3 c = omega (arith, subst CauseFits (c .before .cause2 .given .1) (c .before .before .before .pre))
 
-enum-known-cause-3 : tie.Need-enum-known-cause-3
-enum-known-cause-3 c = search needs
-
 add-result-4 : tie.Need-add-result-4
 add-result-4 c = omega (arith, subst CauseFits (c .before .cause3 .given .1) (c .before .before .before .pre))
-
-enum-known-cause-4 : tie.Need-enum-known-cause-4
-enum-known-cause-4 c = search needs
 
 add-result-5 : tie.Need-add-result-5
 add-result-5 c = omega (arith, subst CauseFits (c .before .cause4 .given .1) (c .before .before .before .pre))
@@ -51,18 +39,5 @@ returns-4 c = sym (ap causeNumber (c .before .cause4 .given .1))
 pub cause-number-spec : {M : Type 1} → statement M
 cause-number-spec =
     tie.close
-    (tie.spec
-    enum-known-cause
-    add-result
-    enum-known-cause-2
-    mul-result
-    add-result-2
-    add-result-3
-    enum-known-cause-3
-    add-result-4
-    enum-known-cause-4
-    add-result-5
-    returns
-    returns-2
-    returns-3
-    returns-4)
+    (tie.spec (λ c. search needs) add-result (λ c. search needs) mul-result add-result-2 add-result-3
+    (λ c. search needs) add-result-4 (λ c. search needs) add-result-5 returns returns-2 returns-3 returns-4)

@@ -5,15 +5,6 @@ use Rattle.line.proofs.Payload.{begins-padded, begins-parity, moved-beg
 use Rattle.line.proofs.find_own.Statement.{statement}
 use Rattle.line.proofs.find_own.Tie as tie
 
-slice-aggregate-add-run : tie.Need-slice-aggregate-add-run
-slice-aggregate-add-run c = search needs
-
-add-run-requires : tie.Need-add-run-requires
-add-run-requires c κs = search needs
-
-slice-aggregate-find-parity : tie.Need-slice-aggregate-find-parity
-slice-aggregate-find-parity c = search needs
-
 find-parity-requires : tie.Need-find-parity-requires
 find-parity-requires c κs =
     let moved = c .before .before .before in
@@ -21,9 +12,6 @@ find-parity-requires c κs =
     let a = start .args in
     let b = moved-begins (a .count) (a .line .now) (start .pre .0) (simp zero-add at (moved .add-run .ensures)) in
     (search needs, begins-padded b, search needs)
-
-same-length : tie.Need-same-length
-same-length c = search needs
 
 returns : tie.Need-returns
 returns c =
@@ -36,10 +24,5 @@ returns c =
 pub find-own-spec : {M : Type 1} → statement M
 find-own-spec =
     tie.close
-    (tie.spec
-    slice-aggregate-add-run
-    add-run-requires
-    slice-aggregate-find-parity
-    find-parity-requires
-    same-length
+    (tie.spec (λ c. search needs) (λ c κs. search needs) (λ c. search needs) find-parity-requires (λ c. search needs)
     returns)

@@ -10,16 +10,7 @@ slice-aggregate-copy c = search needs
 copy-requires : tie.Need-copy-requires
 copy-requires c κs = omega (arith, slice-aggregate-copy c)
 
-answer-number-requires : tie.Need-answer-number-requires
-answer-number-requires c κs = search needs
-
-same-length : tie.Need-same-length
-same-length c = search needs
-
-returns : tie.Need-returns
-returns c = search needs
-
 pub hand-back-spec : {M : Type 1} → statement M
 hand-back-spec =
     tie.close
-    (tie.spec slice-aggregate-copy copy-requires answer-number-requires same-length returns)
+    (tie.spec slice-aggregate-copy copy-requires (λ c κs. search needs) (λ c. search needs) (λ c. search needs))

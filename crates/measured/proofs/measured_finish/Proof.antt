@@ -2,6 +2,7 @@
 use borrow.Author.Needs.{needs}
 use mathlib.Core.Path.{refl, subst}
 use mathlib.Core.Logic.{inl, inr}
+use Rattle.rules.specs.Formats.{fibreFormat}
 use Rattle.rules.specs.Promises.{Finished}
 use Rattle.rules.specs.declared.Stream.{Stream}
 use Rattle.measured.proofs.measured_finish.Statement.{statement}
@@ -9,21 +10,6 @@ use Rattle.measured.proofs.measured_finish.Tie as tie
 
 returns : tie.Need-returns
 returns c = inl (c .if1 .taken, refl, refl, refl)
-
-stream-of-requires : tie.Need-stream-of-requires
-stream-of-requires c κs = search needs
-
-finish-requires : tie.Need-finish-requires
-finish-requires c κs = search needs
-
-hand-back-requires : tie.Need-hand-back-requires
-hand-back-requires c κs = search needs
-
-same-length : tie.Need-same-length
-same-length c = search needs
-
-same-length-2 : tie.Need-same-length-2
-same-length-2 c = search needs
 
 returns-2 : tie.Need-returns-2
 returns-2 c =
@@ -34,11 +20,11 @@ returns-2 c =
     let a = test .before .before .before .args in
     let f = after .finish in
     let o = f .last .1 .1 .0 in
-    let P : Stream → Type 0 = λ (t : Stream). Finished (a .delimiter) t (a .tail .now) (f .result) o in
+    let P : Stream → Type 0 = λ (t : Stream). Finished fibreFormat (a .delimiter) t (a .tail .now) (f .result) o in
     inr (
       test .if1 .left,
       record {
-        step = f .result;
+        outcome = f .result;
         promised = subst P (lent .ensures) (f .ensures);
         result = back .ensures .0;
         checks = back .ensures .1;
@@ -48,11 +34,5 @@ returns-2 c =
 pub measured-finish-spec : {M : Type 1} → statement M
 measured-finish-spec =
     tie.close
-    (tie.spec
-    returns
-    stream-of-requires
-    finish-requires
-    hand-back-requires
-    same-length
-    same-length-2
-    returns-2)
+    (tie.spec returns (λ c κs. search needs) (λ c κs. search needs) (λ c κs. search needs) (λ c. search needs)
+    (λ c. search needs) returns-2)

@@ -18,20 +18,8 @@ Inv-loop s byte number₀ i₀ i-end number i = (i ≤ i-end) × (i-end ≡ leng
 abbrev μ-loop : tie.MeasureT-loop
 μ-loop s byte number₀ i₀ i-end number i = i-end - i
 
-sub-i-end : tie.Need-sub-i-end Inv-loop μ-loop
-sub-i-end c = search needs
-
 loop-holds : tie.Need-loop-holds Inv-loop μ-loop
 loop-holds c = (search needs, search needs, number-none _)
-
-byte-at-requires : tie.Need-byte-at-requires Inv-loop μ-loop
-byte-at-requires c κs = search needs
-
-add-i : tie.Need-add-i Inv-loop μ-loop
-add-i c = search needs
-
-loop-less : tie.Need-loop-less Inv-loop μ-loop
-loop-less c = search needs
 
 loop-again : tie.Need-loop-again Inv-loop μ-loop
 loop-again c =
@@ -53,13 +41,5 @@ returns c =
 pub end-at-spec : {M : Type 1} → statement M
 end-at-spec =
     tie.close
-    (tie.spec
-    Inv-loop
-    μ-loop
-    sub-i-end
-    loop-holds
-    byte-at-requires
-    add-i
-    loop-less
-    loop-again
-    returns)
+    (tie.spec Inv-loop μ-loop (λ c. search needs) loop-holds (λ c κs. search needs) (λ c. search needs)
+    (λ c. search needs) loop-again returns)

@@ -4,24 +4,6 @@ use Rattle.numbers.proofs.Reading.{number-inside}
 use Rattle.numbers.proofs.number_at.Statement.{statement}
 use Rattle.numbers.proofs.number_at.Tie as tie
 
-add-last : tie.Need-add-last
-add-last c = search needs
-
-add-last-2 : tie.Need-add-last-2
-add-last-2 c = search needs
-
-load-requires : tie.Need-load-requires
-load-requires c κs = search needs
-
-shared-slice-read-wide : tie.Need-shared-slice-read-wide
-shared-slice-read-wide c = search needs
-
-wide-requires : tie.Need-wide-requires
-wide-requires c κs = search needs
-
-across-requires : tie.Need-across-requires
-across-requires c κs = search needs
-
 returns : tie.Need-returns
 returns c =
     let read = c .before .before .before in
@@ -33,11 +15,5 @@ returns c =
 pub number-at-spec : {M : Type 1} → statement M
 number-at-spec =
     tie.close
-    (tie.spec
-    add-last
-    add-last-2
-    load-requires
-    shared-slice-read-wide
-    wide-requires
-    across-requires
-    returns)
+    (tie.spec (λ c. search needs) (λ c. search needs) (λ c κs. search needs) (λ c. search needs)
+    (λ c κs. search needs) (λ c κs. search needs) returns)

@@ -1,77 +1,81 @@
--- `parity::solve` meets its contract: the recipe is followed from the checks and zeros after them.
+-- `parity::solve` meets its contract: the recipe is followed from the checks and zeros after them. The code's constant
+-- is the recipe, by computing both.
 use borrow.Author.Needs.{needs}
-use mathlib.Core.Path.{_≡_, sym, _∙_}
+use mathlib.Core.Path.{_≡_, refl, sym, _∙_}
 use mathlib.Core.List.{List, _++_}
-use Prim.Native.Nat.{ℕ, _+_, _-_, _≤_}
+use Prim.Native.Nat.{ℕ, _+_, _-_, _*_, _/_, _≤_, _<_}
 use native.Mathlib.Omega.{arith}
-use lib.ListN.{length, replicate, length-append, length-replicate}
-use lib.Seq.{take-at}
-use Rattle.rules.specs.Bits.{bit}
-use Rattle.laws.proofs.Bits.{bit-back, bit-zeros}
+use lib.Dec.{lit<, lit≤}
+use lib.ListN.{length, replicate, length-append, length-replicate, length-take, length-drop}
+use Rattle.rules.specs.Bits.{bit, need, Packed}
+use Rattle.rules.specs.Matrix.{checks}
+use Rattle.rules.specs.Table.{fibre}
+use Rattle.laws.proofs.Bits.{bit-front, bit-back, bit-zeros, bit-past, bit-part}
+use Rattle.recipes.proofs.Steps.{codes-fit, followed-own}
+use Rattle.parity.proofs.Recipe.{recipe}
+use Rattle.parity.proofs.Solved.{registers, fibre-solves, fibre-coded}
 use Rattle.parity.proofs.solve.Statement.{statement}
 use Rattle.parity.proofs.solve.Tie as tie
 
+-- the bytes of the checks, and of a parity; those of all registers; and those after the checks
+abbrev parityBytes : ℕ
+parityBytes = need (checks fibre)
+
+abbrev registerBytes : ℕ
+registerBytes = fibre .size * registers / 8
+
+abbrev restBytes : ℕ
+restBytes = registerBytes - parityBytes
+
 -- checks, and zeros after them
-module _ (s : List ℕ) (long : length s ≡ 384) where
-  size : length (s ++ replicate 1600 0) ≡ 1984
+module _ (s : List ℕ) (long : length s ≡ parityBytes) where
+  size : length (s ++ replicate restBytes 0) ≡ registerBytes
   size = rw (length-append, length-replicate) (omega arith)
 
-  none : (n : ℕ) → 3072 ≤ n → bit (s ++ replicate 1600 0) n ≡ 0
-  none n h =
-      let e : n ≡ 3072 + (n - 3072) = omega arith in
-      rw e (bit-back s (replicate 1600 0) 384 (n - 3072) long ∙ bit-zeros 1600 (n - 3072))
+  begins : (n : ℕ) → n < checks fibre → bit (s ++ replicate restBytes 0) n ≡ bit s n
+  begins n h = bit-front s (replicate restBytes 0) n (omega arith)
 
-array-borrow-prefix-registers : tie.Need-array-borrow-prefix-registers
-array-borrow-prefix-registers c = search needs
+  clear : (n : ℕ) → checks fibre ≤ n → bit (s ++ replicate restBytes 0) n ≡ 0
+  clear n h =
+      let k = n - 8 * parityBytes in
+      let e : n ≡ 8 * parityBytes + k = omega arith in
+      rw e (bit-back s (replicate restBytes 0) parityBytes k long ∙ bit-zeros restBytes k)
 
-slice-aggregate-copy : tie.Need-slice-aggregate-copy
-slice-aggregate-copy c = search needs
-
-copy-requires : tie.Need-copy-requires
-copy-requires c κs = search needs
+-- the parity takes all the bits of its bytes
+packed : (p : List ℕ) → length p ≡ parityBytes → Packed (checks fibre) p
+packed p long = record {
+  bytes = long;
+  unused = λ u. let l = u .1 in omega (arith, u .2, bit-past p (u .0) (omega arith));
+}
 
 slice-aggregate-follow : tie.Need-slice-aggregate-follow
 slice-aggregate-follow c = sym (size (c .before .before .copy .last .0) (omega arith))
 
 follow-requires : tie.Need-follow-requires
+unfolding recipe
 follow-requires c κs =
-    let s = c .before .before .copy .last .0 in
-    (size s (omega arith), none s (omega arith))
-
-sub-copy : tie.Need-sub-copy
-sub-copy c = search needs
-
-part-copy-start : tie.Need-part-copy-start
-part-copy-start c = search needs
-
-part-copy-end : tie.Need-part-copy-end
-part-copy-end c = search needs
-
-copy-requires-2 : tie.Need-copy-requires-2
-copy-requires-2 c κs = search needs
-
-same-length : tie.Need-same-length
-same-length c = search needs
+    let long = size (c .before .before .before .copy .last .0) (omega arith) in
+    (lit< tt, lit≤ tt, omega arith, codes-fit fibre-solves fibre-coded refl _ (omega arith))
 
 returns : tie.Need-returns
+unfolding recipe
 returns c =
     let read = c .before .before .copy2 in
-    let followed = c .before .before .before .before .before .before .before in
-    let begun = followed .before .before .before .copy in
-    rw (read .ensures, ← begun .ensures, ← take-at (begun .last .0) (replicate 1600 0) 384 (omega arith)) (followed .follow .ensures)
+    let done = c .before .before .before .before .before .before .before in
+    let begun = done .before .before .before .before .copy in
+    let s = begun .last .0 in
+    let y = done .follow .last .0 in
+    let long : length s ≡ parityBytes = omega arith in
+    let made = done .follow .ensures .length-same in
+    rw (read .ensures, ← begun .ensures)
+    (followed-own fibre-solves fibre-coded refl (s ++ replicate restBytes 0) y s _ (begins s long) (clear s long)
+    (done .follow .ensures)
+    (packed _ (simp (length-take, length-drop) (omega (arith, made, size s long))))
+    (λ t h. bit-part y parityBytes parityBytes t (omega arith)))
 
 pub solve-spec : {M : Type 1} → statement M
 solve-spec =
     tie.close
-    (tie.spec
-    array-borrow-prefix-registers
-    slice-aggregate-copy
-    copy-requires
-    slice-aggregate-follow
-    follow-requires
-    sub-copy
-    part-copy-start
-    part-copy-end
-    copy-requires-2
-    same-length
-    returns)
+    (tie.spec (λ c. search needs) (λ c. search needs) (λ c κs. search needs) slice-aggregate-follow
+    (λ c. search needs) follow-requires (λ c. search needs) (λ c. search needs) (λ c. search needs)
+    (λ c κs. search needs) (λ c. search needs) returns)

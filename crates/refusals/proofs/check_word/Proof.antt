@@ -1,42 +1,24 @@
--- `refusals::check_word` meets its contract.
+-- `refusals::check_word` meets its contract: its tests stand in the order of the definition.
 use borrow.Author.Needs.{needs}
-use lib.Dec.{lit<}
-use Rattle.laws.proofs.Told.{told-before}
+use Rattle.rules.specs.Formats.{fibreFormat}
+use Rattle.rules.specs.Refusals.{wordOrder}
+use Rattle.laws.proofs.Told.{none, test, told-tested}
 use Rattle.refusals.proofs.check_word.Statement.{statement}
 use Rattle.refusals.proofs.check_word.Tie as tie
 
-bad-count-requires : tie.Need-bad-count-requires
-bad-count-requires c κs = search needs
-
-broken-block-requires : tie.Need-broken-block-requires
-broken-block-requires c κs = search needs
-
-wrong-bytes-requires : tie.Need-wrong-bytes-requires
-wrong-bytes-requires c κs = search needs
-
-earlier-requires : tie.Need-earlier-requires
-earlier-requires c κs = search needs
-
-earlier-requires-2 : tie.Need-earlier-requires-2
-earlier-requires-2 c κs = search needs
-
 returns : tie.Need-returns
 returns c =
-    let told1 = c .before in
-    let second = told1 .before in
-    let tenth = second .before in
+    let second = c .before .before in
+    let tenth = second .before .before in
     let first = tenth .before in
-    told-before (lit< tt) (first .bad-count .ensures) (c .earlier2 .ensures) (λ e. rw e
-    (told-before (lit< tt) (tenth .broken-block .ensures) (told1 .earlier .ensures) (λ e. rw e
-    (second .wrong-bytes .ensures))))
+    let a = first .before .before .args in
+    told-tested (wordOrder fibreFormat (a .count) (a .word .now)) tt (c .first-told .ensures)
+    (test (first .outside .ensures) (λ good.
+    test (tenth .differs .ensures) (λ whole.
+    test (rw (second .before .needed .ensures) at (second .differs2 .ensures)) (λ bytes. none))))
 
 pub check-word-spec : {M : Type 1} → statement M
 check-word-spec =
     tie.close
-    (tie.spec
-    bad-count-requires
-    broken-block-requires
-    wrong-bytes-requires
-    earlier-requires
-    earlier-requires-2
-    returns)
+    (tie.spec (λ c κs. search needs) (λ c κs. search needs) (λ c κs. search needs) (λ c κs. search needs)
+    (λ c. search needs) (λ c κs. search needs) returns)

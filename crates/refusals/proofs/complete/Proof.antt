@@ -1,53 +1,28 @@
--- `refusals::complete` meets its contract.
+-- `refusals::complete` meets its contract: its tests stand in the order of the definition.
 use borrow.Author.Needs.{needs}
-use lib.Dec.{lit<}
-use Rattle.laws.proofs.Told.{told-before}
+use native.Mathlib.Omega.{arith}
+use Rattle.rules.specs.Formats.{fibreFormat}
+use Rattle.rules.specs.Refusals.{completeOrder}
+use Rattle.laws.proofs.Told.{none, test, told-tested, not-different}
 use Rattle.refusals.proofs.complete.Statement.{statement}
 use Rattle.refusals.proofs.complete.Tie as tie
 
-bad-count-requires : tie.Need-bad-count-requires
-bad-count-requires c κs = search needs
-
-broken-block-requires : tie.Need-broken-block-requires
-broken-block-requires c κs = search needs
-
-wrong-bytes-requires : tie.Need-wrong-bytes-requires
-wrong-bytes-requires c κs = search needs
-
-shortened-set-requires : tie.Need-shortened-set-requires
-shortened-set-requires c κs = search needs
-
-earlier-requires : tie.Need-earlier-requires
-earlier-requires c κs = search needs
-
-earlier-requires-2 : tie.Need-earlier-requires-2
-earlier-requires-2 c κs = search needs
-
-earlier-requires-3 : tie.Need-earlier-requires-3
-earlier-requires-3 c κs = search needs
-
 returns : tie.Need-returns
 returns c =
-    let told2 = c .before in
-    let told1 = told2 .before in
-    let eighth = told1 .before in
+    let eighth = c .before .before in
     let second = eighth .before in
-    let tenth = second .before in
+    let tenth = second .before .before in
     let first = tenth .before in
-    told-before (lit< tt) (first .bad-count .ensures) (c .earlier3 .ensures) (λ e. rw e
-    (told-before (lit< tt) (tenth .broken-block .ensures) (told2 .earlier2 .ensures) (λ e. rw e
-    (told-before (lit< tt) (second .wrong-bytes .ensures) (told1 .earlier .ensures) (λ e. rw e
-    (eighth .shortened-set .ensures))))))
+    let a = first .before .before .args in
+    told-tested (completeOrder fibreFormat (a .count) (a .word .now)) tt (c .first-told .ensures)
+    (test (first .outside .ensures) (λ good.
+    test (tenth .differs .ensures) (λ whole.
+    test (rw (second .before .needed .ensures) at (second .differs2 .ensures)) (λ bytes.
+    let long = not-different _ _ bytes in
+    test (eighth .shortened-set .ensures (omega arith)) (λ clear. none)))))
 
 pub complete-spec : {M : Type 1} → statement M
 complete-spec =
     tie.close
-    (tie.spec
-    bad-count-requires
-    broken-block-requires
-    wrong-bytes-requires
-    shortened-set-requires
-    earlier-requires
-    earlier-requires-2
-    earlier-requires-3
-    returns)
+    (tie.spec (λ c κs. search needs) (λ c κs. search needs) (λ c κs. search needs) (λ c κs. search needs)
+    (λ c κs. search needs) (λ c. search needs) (λ c κs. search needs) returns)

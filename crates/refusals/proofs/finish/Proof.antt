@@ -1,64 +1,28 @@
--- `refusals::finish` meets its contract.
+-- `refusals::finish` meets its contract: its tests stand in the order of the definition.
 use borrow.Author.Needs.{needs}
-use lib.Dec.{lit<}
-use Rattle.laws.proofs.Told.{told-before}
+use Rattle.rules.specs.Formats.{fibreFormat}
+use Rattle.rules.specs.Refusals.{finishOrder}
+use Rattle.laws.proofs.Told.{none, test, told-tested}
 use Rattle.refusals.proofs.finish.Statement.{statement}
 use Rattle.refusals.proofs.finish.Tie as tie
 
-too-many-requires : tie.Need-too-many-requires
-too-many-requires c κs = search needs
-
-bad-count-requires : tie.Need-bad-count-requires
-bad-count-requires c κs = search needs
-
-broken-block-requires : tie.Need-broken-block-requires
-broken-block-requires c κs = search needs
-
-bad-delimiter-requires : tie.Need-bad-delimiter-requires
-bad-delimiter-requires c κs = search needs
-
-no-room-requires : tie.Need-no-room-requires
-no-room-requires c κs = search needs
-
-earlier-requires : tie.Need-earlier-requires
-earlier-requires c κs = search needs
-
-earlier-requires-2 : tie.Need-earlier-requires-2
-earlier-requires-2 c κs = search needs
-
-earlier-requires-3 : tie.Need-earlier-requires-3
-earlier-requires-3 c κs = search needs
-
-earlier-requires-4 : tie.Need-earlier-requires-4
-earlier-requires-4 c κs = search needs
-
 returns : tie.Need-returns
 returns c =
-    let told3 = c .before in
-    let told2 = told3 .before in
-    let told1 = told2 .before in
-    let fifth = told1 .before in
+    let fifth = c .before .before in
     let fourth = fifth .before in
     let tenth = fourth .before in
     let first = tenth .before in
     let seventh = first .before in
-    told-before (lit< tt) (seventh .too-many .ensures) (c .earlier4 .ensures) (λ e. rw e
-    (told-before (lit< tt) (first .bad-count .ensures) (told3 .earlier3 .ensures) (λ e. rw e
-    (told-before (lit< tt) (tenth .broken-block .ensures) (told2 .earlier2 .ensures) (λ e. rw e
-    (told-before (lit< tt) (fourth .bad-delimiter .ensures) (told1 .earlier .ensures) (λ e. rw e
-    (fifth .no-room .ensures))))))))
+    let a = seventh .before .args in
+    told-tested (finishOrder fibreFormat (a .held) (a .delimiter) (a .room)) tt (c .first-told .ensures)
+    (test (seventh .above .ensures) (λ held.
+    test (first .outside .ensures) (λ good.
+    test (tenth .differs .ensures) (λ whole.
+    test (fourth .above2 .ensures) (λ small.
+    test (fifth .above3 .ensures) (λ room. none))))))
 
 pub finish-spec : {M : Type 1} → statement M
 finish-spec =
     tie.close
-    (tie.spec
-    too-many-requires
-    bad-count-requires
-    broken-block-requires
-    bad-delimiter-requires
-    no-room-requires
-    earlier-requires
-    earlier-requires-2
-    earlier-requires-3
-    earlier-requires-4
-    returns)
+    (tie.spec (λ c κs. search needs) (λ c κs. search needs) (λ c κs. search needs) (λ c κs. search needs)
+    (λ c κs. search needs) (λ c. search needs) (λ c κs. search needs) returns)

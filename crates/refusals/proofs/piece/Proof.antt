@@ -1,66 +1,26 @@
--- `refusals::piece` meets its contract.
+-- `refusals::piece` meets its contract: its tests stand in the order of the definition.
 use borrow.Author.Needs.{needs}
-use native.Mathlib.Omega.{arith}
-use lib.Dec.{lit<}
-use lib.ListN.{length}
-use Rattle.rules.specs.Bits.{need}
-use Rattle.laws.proofs.Told.{told-first, told-left, told-next, told-before, alike}
+use Rattle.rules.specs.Formats.{fibreFormat}
+use Rattle.rules.specs.Refusals.{pieceOrder}
+use Rattle.laws.proofs.Told.{none, test, told-tested, not-different}
 use Rattle.refusals.proofs.piece.Statement.{statement}
 use Rattle.refusals.proofs.piece.Tie as tie
 
-too-many-requires : tie.Need-too-many-requires
-too-many-requires c κs = search needs
-
 returns : tie.Need-returns
 returns c =
-    let seventh = c .before in
-    told-first (seventh .too-many .ensures) (c .if1 .taken)
-
-wrong-bytes-requires : tie.Need-wrong-bytes-requires
-wrong-bytes-requires c κs = search needs
-
-returns-2 : tie.Need-returns-2
-returns-2 c =
-    let second = c .before in
-    let passed1 = second .before in
-    let seventh = passed1 .before in
-    told-next (lit< tt) (seventh .too-many .ensures) (passed1 .if1 .left)
-    (told-first (second .wrong-bytes .ensures) (c .if2 .taken))
-
-unused-set-requires : tie.Need-unused-set-requires
-unused-set-requires c κs =
-    let a = c .before .before .before .before .before .args in
-    alike (length (a .bytes .now)) (need (a .count)) (told-left (lit< tt) (c .if2 .left) (c .before .wrong-bytes .ensures) .0)
-
-too-many-with-requires : tie.Need-too-many-with-requires
-too-many-with-requires c κs =
-    let h = (told-left (lit< tt) (c .before .before .before .if1 .left) (c .before .before .before .before .too-many .ensures) .0) in omega arith
-
-earlier-requires : tie.Need-earlier-requires
-earlier-requires c κs = search needs
-
-returns-3 : tie.Need-returns-3
-returns-3 c =
-    let sixth = c .before in
+    let sixth = c .before .before in
     let third = sixth .before in
-    let passed2 = third .before in
-    let second = passed2 .before in
-    let passed1 = second .before in
-    let seventh = passed1 .before in
-    told-next (lit< tt) (seventh .too-many .ensures) (passed1 .if1 .left)
-    (told-next (lit< tt) (second .wrong-bytes .ensures) (passed2 .if2 .left)
-    (told-before (lit< tt) (third .unused-set .ensures) (c .earlier .ensures) (λ e. rw e
-    (sixth .too-many-with .ensures))))
+    let second = third .before in
+    let seventh = second .before .before in
+    let a = seventh .before .before .args in
+    told-tested (pieceOrder fibreFormat (a .held) (a .count) (a .bytes .now)) tt (c .first-told .ensures)
+    (test (seventh .above .ensures) (λ held.
+    test (rw (second .before .needed .ensures) at (second .differs .ensures)) (λ bytes.
+    test (third .unused-set .ensures (not-different _ _ bytes)) (λ unused.
+    test (sixth .above-with .ensures) (λ fits. none)))))
 
 pub piece-spec : {M : Type 1} → statement M
 piece-spec =
     tie.close
-    (tie.spec
-    too-many-requires
-    returns
-    wrong-bytes-requires
-    returns-2
-    unused-set-requires
-    too-many-with-requires
-    earlier-requires
-    returns-3)
+    (tie.spec (λ c κs. search needs) (λ c κs. search needs) (λ c κs. search needs) (λ c κs. search needs)
+    (λ c κs. search needs) (λ c. search needs) (λ c κs. search needs) returns)

@@ -3,36 +3,21 @@ use borrow.Author.Needs.{needs}
 use mathlib.Core.Path.{refl}
 use mathlib.Core.Logic.{inl, inr}
 use native.Mathlib.Omega.{arith}
-use Rattle.refusals.proofs.Shortened.{shortened-found, shortened-clear}
 use Rattle.refusals.proofs.shortened_set.Statement.{statement}
 use Rattle.refusals.proofs.shortened_set.Tie as tie
 
-payload-end-requires : tie.Need-payload-end-requires
-payload-end-requires c κs = search needs
-
-returns : tie.Need-returns
-returns c =
-    let a = c .before .before .before .args in
-    let e = c .before .payload-end in
-    inr (shortened-clear (a .count) (a .word .now) (e .result) (e .ensures .2) (λ n l h. absurd (omega arith)), refl)
-
-first-set-requires : tie.Need-first-set-requires
-first-set-requires c κs = search needs
-
-returns-2 : tie.Need-returns-2
-returns-2 c =
-    let a = c .before .before .before .before .before .args in
-    let e = c .before .before .before .payload-end in
-    let f = c .before .first-set in
-    inl (shortened-found (a .count) (a .word .now) (e .result) (f .result) (e .ensures .0) (f .ensures) (c .if2 .taken), refl)
-
 returns-3 : tie.Need-returns-3
-returns-3 c =
-    let a = c .before .before .before .before .before .args in
-    let e = c .before .before .before .payload-end in
+returns-3 c l =
     let f = c .before .first-set in
-    inr (shortened-clear (a .count) (a .word .now) (e .result) (e .ensures .2) (λ n l h. f .ensures .clear n l (omega arith)), refl)
+    inl ((f .result, (f .ensures .low, c .if3 .taken, f .ensures .set (c .if3 .taken))), refl)
+
+returns-4 : tie.Need-returns-4
+returns-4 c l =
+    let f = c .before .first-set in
+    inr (λ s. omega (arith, f .ensures .clear (s .0) (s .1 .0) (omega (arith, s .1 .1)), s .1 .2), refl)
 
 pub shortened-set-spec : {M : Type 1} → statement M
 shortened-set-spec =
-    tie.close (tie.spec payload-end-requires returns first-set-requires returns-2 returns-3)
+    tie.close
+    (tie.spec (λ c κs. search needs) (λ c l. absurd (omega arith))
+    (λ c l. inr (λ s. omega (arith, s .1 .0, s .1 .1), refl)) (λ c κs. search needs) returns-3 returns-4)

@@ -7,10 +7,10 @@ use Prim.Native.Nat.{ℕ, _-_, _/_, _%_, _≤_, _<_}
 use native.Mathlib.Omega.{arith}
 use lib.Dec.{lit<}
 use Rattle.rules.specs.Bits.{bit}
-use Rattle.rules.specs.Matrix.{total, check}
+use Rattle.rules.specs.Matrix.{checks, total, check}
 use Rattle.rules.specs.Table.{fibre}
 use Rattle.rules.specs.Terms.{term}
-use Rattle.rules.proofs.TableLaws.{entry-read}
+use Rattle.rules.proofs.TableLaws.{fibre-fits, entry-read}
 use Rattle.rules.proofs.Sums.{total-more}
 use Rattle.rules.proofs.Checks.{check-columns}
 use Rattle.laws.proofs.Bits.{bit<}
@@ -19,23 +19,24 @@ use Rattle.rows.proofs.scan.Statement.{statement}
 use Rattle.rows.proofs.scan.Tie as tie
 
 abbrev Inv-loop : tie.InvT-loop
-Inv-loop word table row i ones₀ j₀ ones j = (j ≤ 69) × (ones ≤ j) × (ones ≡ total j (term fibre row (bit word)))
+Inv-loop word table row i ones₀ j₀ ones j =
+    (j ≤ fibre .columns) × (ones ≤ j) × (ones ≡ total j (term fibre row (bit word)))
 
 abbrev μ-loop : tie.MeasureT-loop
-μ-loop word table row i ones₀ j₀ ones j = 69 - j
+μ-loop word table row i ones₀ j₀ ones j = fibre .columns - j
 
 abbrev Inv-rows : tie.InvT-rows
-Inv-rows word table row₀ row = (row ≤ 3072) × ((n : ℕ) → n < row → check fibre n (bit word) ≡ 0)
+Inv-rows word table row₀ row = (row ≤ checks fibre) × ((n : ℕ) → n < row → check fibre n (bit word) ≡ 0)
 
 abbrev μ-rows : tie.MeasureT-rows
-μ-rows word table row₀ row = 3072 - row
+μ-rows word table row₀ row = checks fibre - row
 
 -- a term is 0 or 1
 low : (w : List ℕ) (row j : ℕ) → term fibre row (bit w) j < 2
 low w row j = term-below fibre (lit< tt) row (bit w) j (bit< w)
 
--- all 69 terms are summed
-summed : (w : List ℕ) (row ones j : ℕ) → ones ≡ total j (term fibre row (bit w)) → j ≡ 69
+-- all terms are summed
+summed : (w : List ℕ) (row ones j : ℕ) → ones ≡ total j (term fibre row (bit w)) → j ≡ fibre .columns
     → check fibre row (bit w) ≡ ones % 2
 summed w row ones j e h =
     check-columns fibre (lit< tt) row (bit w)
@@ -48,39 +49,19 @@ loop-holds : tie.Need-loop-holds Inv-loop μ-loop Inv-rows μ-rows
 unfolding total
 loop-holds c = (search needs, search needs, refl)
 
-mul-term-of : tie.Need-mul-term-of Inv-loop μ-loop Inv-rows μ-rows
-mul-term-of c = search needs
-
-mul-term-of-2 : tie.Need-mul-term-of-2 Inv-loop μ-loop Inv-rows μ-rows
-mul-term-of-2 c = search needs
-
-index-1-term-of : tie.Need-index-1-term-of Inv-loop μ-loop Inv-rows μ-rows
-index-1-term-of c = search needs
-
-index-2-term-of : tie.Need-index-2-term-of Inv-loop μ-loop Inv-rows μ-rows
-index-2-term-of c = search needs
-
 term-of-requires : tie.Need-term-of-requires Inv-loop μ-loop Inv-rows μ-rows
 term-of-requires c κs =
     let r = c .before .before .before .before in
     let start = r .before .before in
-    let read = entry-read (r .rows .row / 256) (c .before .before .loop .j) (omega arith) (omega arith) in
+    let i = r .rows .row / fibre .size in
+    let read = entry-read fibre fibre-fits i (c .before .before .loop .j) (omega arith) (omega arith) in
     (search needs, search needs, search needs, rw (start .pre .1) read)
-
-cast-ones : tie.Need-cast-ones Inv-loop μ-loop Inv-rows μ-rows
-cast-ones c = search needs
 
 add-ones : tie.Need-add-ones Inv-loop μ-loop Inv-rows μ-rows
 add-ones c =
     let r = c .before .before .before .before .before in
     let w = r .before .before .args .word .now in
     omega (arith, c .term-of .ensures, low w (r .rows .row) (c .before .before .before .loop .j))
-
-add-j : tie.Need-add-j Inv-loop μ-loop Inv-rows μ-rows
-add-j c = search needs
-
-loop-less : tie.Need-loop-less Inv-loop μ-loop Inv-rows μ-rows
-loop-less c = search needs
 
 loop-again : tie.Need-loop-again Inv-loop μ-loop Inv-rows μ-rows
 loop-again c =
@@ -91,12 +72,6 @@ loop-again c =
       omega (arith, c .term-of .ensures, low w (r .rows .row) (l .j)),
       rw (c .term-of .ensures) (total-more (term fibre (r .rows .row) (bit w)) (l .j) (l .ones) (l .inv .2)),
     )
-
-add-row : tie.Need-add-row Inv-loop μ-loop Inv-rows μ-rows
-add-row c = search needs
-
-rows-less : tie.Need-rows-less Inv-loop μ-loop Inv-rows μ-rows
-rows-less c = search needs
 
 rows-again : tie.Need-rows-again Inv-loop μ-loop Inv-rows μ-rows
 rows-again c =
@@ -122,25 +97,6 @@ returns-2 c =
 pub scan-spec : {M : Type 1} → statement M
 scan-spec =
     tie.close
-    (tie.spec
-    Inv-loop
-    μ-loop
-    Inv-rows
-    μ-rows
-    rows-holds
-    loop-holds
-    mul-term-of
-    mul-term-of-2
-    index-1-term-of
-    index-2-term-of
-    term-of-requires
-    cast-ones
-    add-ones
-    add-j
-    loop-less
-    loop-again
-    add-row
-    rows-less
-    rows-again
-    returns
-    returns-2)
+    (tie.spec Inv-loop μ-loop Inv-rows μ-rows rows-holds loop-holds (λ c. search needs) (λ c. search needs)
+    (λ c. search needs) (λ c. search needs) term-of-requires (λ c. search needs) add-ones (λ c. search needs)
+    (λ c. search needs) loop-again (λ c. search needs) (λ c. search needs) rows-again returns returns-2)

@@ -3,14 +3,16 @@ use borrow.Author.Needs.{needs}
 use mathlib.Core.Path.{_∙_}
 use Prim.Native.Nat.{_/_}
 use native.Mathlib.Omega.{arith}
-use Rattle.rules.specs.Terms.{term}
-use Rattle.rules.proofs.TableLaws.{turn-below}
+use Rattle.rules.specs.Matrix.{entry}
+use Rattle.rules.specs.Table.{fibre}
+use Rattle.rules.specs.Terms.{through}
+use Rattle.rules.proofs.TableLaws.{fibre-fits, turn-below}
 use Rattle.laws.proofs.Columns.{entry-none, entry-some, turn-fits}
 use Rattle.rows.proofs.term_of.Statement.{statement}
 use Rattle.rows.proofs.term_of.Tie as tie
 
 returns : tie.Need-returns
-unfolding term
+unfolding through entry
 returns c =
     let start = c .before .before in
     rw (entry-none (start .fits .a) (start .pre .3) (c .if1 .taken) .1)
@@ -18,23 +20,14 @@ returns c =
 cast-turn : tie.Need-cast-turn
 cast-turn c = let start = c .before .before in turn-fits (start .fits .a) (c .if1 .left)
 
-mul-bit-at : tie.Need-mul-bit-at
-mul-bit-at c = search needs
-
 add-bit-at : tie.Need-add-bit-at
 add-bit-at c =
     let start = c .before .before in
     let e = entry-some (start .fits .a) (start .pre .3) (c .if1 .left) in
-    record { fits = omega (arith, turn-below (start .args .row / 256) (start .args .j) e) }
-
-add-bit-at-2 : tie.Need-add-bit-at-2
-add-bit-at-2 c = search needs
-
-bit-at-requires : tie.Need-bit-at-requires
-bit-at-requires c κs = search needs
+    record { fits = omega (arith, turn-below fibre fibre-fits (start .args .row / fibre .size) (start .args .j) e) }
 
 returns-2 : tie.Need-returns-2
-unfolding term
+unfolding through entry
 returns-2 c =
     let start = c .before .before .before in
     c .bit-at .ensures ∙ rw (entry-some (start .fits .a) (start .pre .3) (c .before .if1 .left))
@@ -42,11 +35,4 @@ returns-2 c =
 pub term-of-spec : {M : Type 1} → statement M
 term-of-spec =
     tie.close
-    (tie.spec
-    returns
-    cast-turn
-    mul-bit-at
-    add-bit-at
-    add-bit-at-2
-    bit-at-requires
-    returns-2)
+    (tie.spec returns cast-turn (λ c. search needs) add-bit-at (λ c. search needs) (λ c κs. search needs) returns-2)

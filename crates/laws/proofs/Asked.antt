@@ -1,0 +1,82 @@
+-- What an order says of the inputs where it tells no refusal: they are what the operation asks. Each fact is asked for
+-- by its refusal's number, wherever that stands. Any format.
+--
+--   X-asked    the inputs of operation X
+--   not-above  a number that is not above another is at most that one
+use mathlib.Core.Path.{_≡_}
+use mathlib.Core.Logic.{inl, inr}
+use mathlib.Core.List.{List}
+use Prim.Native.Nat.{ℕ, _≤_, _<_}
+use native.Mathlib.Decide.{decLt}
+use native.Mathlib.Omega.{arith}
+use Rattle.rules.specs.Bits.{Packed}
+use Rattle.rules.specs.Formats.{Format}
+use Rattle.rules.specs.Refusals.{tells, badCount, brokenBlock, wrongBytes, unusedSet}
+use Rattle.rules.specs.Refusals.{encodeOrder, pieceOrder, finishOrder, completeOrder, wordOrder, lineOrder}
+use Rattle.rules.specs.Asked.{WholeBlocks, EncodeAsks, CompleteAsks, PieceAsks, FinishAsks, WordAsks, LineAsks}
+use Rattle.laws.proofs.Told.{not-refused, not-different}
+
+pub not-above : (a b : ℕ) → (a < b → ⊥) → b ≤ a
+not-above a b h = elim (decLt a b) [
+  | yes l ↦ absurd (h l)
+  | no l ↦ omega arith
+]
+
+packed : {b : ℕ} {s : List ℕ} → (wrongBytes s b .applies → ⊥) → (unusedSet s b .applies → ⊥) → Packed b s
+packed bytes unused = record { bytes = not-different _ _ bytes; unused = unused }
+
+module _ (f : Format) where
+  pub whole-blocks : {K : ℕ} → (badCount f K .applies → ⊥) → (brokenBlock f K .applies → ⊥) → WholeBlocks f K
+  whole-blocks {K} bad broken = record {
+    least = not-above K (f .least) (λ l. bad (inl l));
+    most = not-above (f .most) K (λ l. bad (inr l));
+    whole = not-different _ _ broken;
+  }
+
+  module _ {r : ℕ} (e : r ≡ 0) where
+    pub encode-asked : (K : ℕ) (u : List ℕ) (d room : ℕ) → tells (encodeOrder f K u d room) r → EncodeAsks f K u d room
+    encode-asked K u d room t =
+        let not = not-refused (encodeOrder f K u d room) tt e t in
+        record {
+          count = whole-blocks (not 1) (not 10);
+          payload = packed (not 2) (not 3);
+          delimiter = not-above _ d (not 4);
+          fits = not-above room _ (not 5);
+        }
+
+    pub complete-asked : (K : ℕ) (w : List ℕ) → tells (completeOrder f K w) r → CompleteAsks f K w
+    complete-asked K w t =
+        let not = not-refused (completeOrder f K w) tt e t in
+        record {
+          count = whole-blocks (not 1) (not 10);
+          bytes = not-different _ _ (not 2);
+          shortened = λ n s. not 8 (n, s);
+        }
+
+    pub piece-asked : (held b : ℕ) (s : List ℕ) → tells (pieceOrder f held b s) r → PieceAsks f held b s
+    piece-asked held b s t =
+        let not = not-refused (pieceOrder f held b s) tt e t in
+        record { piece = packed (not 2) (not 3); most = not-above (f .most) _ (not 6) }
+
+    pub finish-asked : (held d room : ℕ) → tells (finishOrder f held d room) r → FinishAsks f held d room
+    finish-asked held d room t =
+        let not = not-refused (finishOrder f held d room) tt e t in
+        record {
+          count = whole-blocks (not 1) (not 10);
+          delimiter = not-above _ d (not 4);
+          fits = not-above room _ (not 5);
+        }
+
+    pub word-asked : (K : ℕ) (w : List ℕ) → tells (wordOrder f K w) r → WordAsks f K w
+    word-asked K w t =
+        let not = not-refused (wordOrder f K w) tt e t in
+        record { count = whole-blocks (not 1) (not 10); bytes = not-different _ _ (not 2) }
+
+    pub line-asked : (K : ℕ) (l : List ℕ) (d : ℕ) → tells (lineOrder f K l d) r → LineAsks f K l d
+    line-asked K l d t =
+        let not = not-refused (lineOrder f K l d) tt e t in
+        record {
+          count = whole-blocks (not 1) (not 10);
+          line = packed (not 2) (not 3);
+          delimiter = not-above _ d (not 4);
+        }

@@ -1,0 +1,21 @@
+-- Paper 01, 'Numbers': what the theorems ask of a format's sizes.
+--
+--   Sized f     the sizes of the format f go together:
+--     rows        there are no more block rows than block columns
+--     whole       the payload places fill whole bytes
+--     some        a payload has at least one bit
+--     most        the longest payload fits the payload places
+--     sent        no more parity places are sent than there are
+--
+-- Believe this file beside the paper. Fibre proves it of the fibre code's format.
+use mathlib.Core.Path.{_≡_}
+use Prim.Native.Nat.{_%_, _≤_, _<_}
+use Rattle.rules.specs.Matrix.{checks, payloadPlaces}
+use Rattle.rules.specs.Formats.{Format}
+
+pub record Sized (f : Format) : Type 0 where
+  pub rows : f .code .rows ≤ f .code .columns
+  pub whole : payloadPlaces (f .code) % 8 ≡ 0
+  pub some : 0 < f .least
+  pub most : f .most ≤ payloadPlaces (f .code)
+  pub sent : f .sent ≤ checks (f .code)
