@@ -10,6 +10,7 @@
 --   Differs x y b n          n is below b, and x and y differ there
 --   ParityDiffers f K l p    where the sent parity of l differs from the encoder's, p
 --   DelimiterDiffers f K l d where the delimiter of l differs from d
+--   TailVerdict f K l d p v  v is the verdict on the tail of l, beside the parity p first, then the delimiter d
 --   LineVerdict f K l d v    v is the verdict on the line word l: its tail beside the encoder's
 --
 -- Believe this file beside the paper; nothing here is proved.
