@@ -4,11 +4,12 @@ ghost use Prim.Native.Nat.{ℕ, _+_, _*_, _%_, _^_, _≤_, _<_};
 ghost use lib.ListN.{length, getD};
 ghost use Rattle.rules.specs.Bits.{bit, placed, Adds};
 ghost use Rattle.recipes.specs.Steps.{StepFits, Followed};
+ghost use Rattle.turning.specs.Turning.{heldBits};
 
 // Adds a register, turned, to another. One that is a part of bytes is added faster.
 fn step(registers: &mut [u8], size: usize, target: usize, source: usize, turn: usize)
     requires { ⌜
-        (size ≤ 512) × (8 * length (now registers) < 2 ^ 64) × (size * target + size ≤ 8 * length (now registers))
+        (size ≤ heldBits) × (8 * length (now registers) < 2 ^ 64) × (size * target + size ≤ 8 * length (now registers))
         × (size * source + size ≤ 8 * length (now registers)) × (turn < size)
         ⌝ }
     ensures { λ r. ⌜
@@ -32,7 +33,7 @@ fn step(registers: &mut [u8], size: usize, target: usize, source: usize, turn: u
 // target, the source, and the turn.
 pub fn follow(registers: &mut [u8], size: usize, recipe: &[u32])
     requires { ⌜
-        (0 < size) × (size ≤ 512) × (8 * length (now registers) < 2 ^ 64)
+        (0 < size) × (size ≤ heldBits) × (8 * length (now registers) < 2 ^ 64)
         × ((k : ℕ) → k < length (now recipe) → StepFits size (8 * length (now registers)) (getD (now recipe) k 0))
         ⌝ }
     ensures { λ r. ⌜ Followed size (now (recipe .entry)) (now (registers .entry)) (now (registers .exit)) ⌝ }

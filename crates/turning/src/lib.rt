@@ -8,7 +8,7 @@ ghost use lib.ListN.{length, drop};
 ghost use Rattle.rules.specs.Bits.{bit, zeros, run, placed, Adds};
 ghost use Rattle.numbers.specs.Numbers.{Holds, Replaced};
 ghost use Rattle.turning.specs.Quarters.{HoldsAll};
-ghost use Rattle.turning.specs.Turning.{turned, partBits, partBytes};
+ghost use Rattle.turning.specs.Turning.{turned, partBits, partBytes, heldBits};
 
 // The bits of a part, four numbers, and its bytes.
 pub const PART_BITS: usize = 256;
@@ -109,7 +109,7 @@ pub fn add_block(sums: &mut [u8], at: usize, word: &[u8], from: usize, size: usi
 pub fn add_block_within(s: &mut [u8], to: usize, from: usize, size: usize, turn: usize)
     requires { ⌜
         (turn < size) × (to + size < 2 ^ 64) × (from + size < 2 ^ 64) × (to + size ≤ 8 * length (now s))
-        × (from + size ≤ 8 * length (now s)) × (size ≤ 512)
+        × (from + size ≤ 8 * length (now s)) × (size ≤ heldBits)
         ⌝ }
     ensures { λ r. ⌜
         Adds (now (s .entry)) (now (s .exit)) (placed to size (λ t. bit (now (s .entry)) (from + (t + turn) % size)))
