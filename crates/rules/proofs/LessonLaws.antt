@@ -1,18 +1,23 @@
--- The ten proved lessons of paper 01's sheet are right.
+-- The ten proved lessons of paper 01's sheet are right, and those of the coax codes.
 --
---   lessons-right    the single claim
+--   lessons-right    the single claim, of the ten
+--   coax-right       of each coax code
 --
 -- The places' lessons are computed. A word with a single 1 has, as its checks, that place's column of the matrix.
 use mathlib.Core.Path.{_≡_, refl, sym, ap, _∙_}
 use Prim.Native.Nat.{ℕ, _<_, _≤_}
 use native.Mathlib.Omega.{arith}
-use lib.ListN.{take}
+use lib.ListN.{take, drop}
 use lib.Dec.{T, eqb, eqb→eq, lit<}
 use Rattle.rules.specs.Bits.{zeros, only}
 use Rattle.rules.specs.Matrix.{Code, places, checks, payloadPlaces, entry, one, total, checksOf}
 use Rattle.rules.specs.Table.{lines, fibre}
 use Rattle.rules.specs.Verdicts.{rowFails, howMany, WordVerdict}
-use Rattle.rules.specs.Lessons.{AllRight, lessons}
+use Rattle.rules.specs.CoaxTables.{longLines, shortLines}
+use Rattle.rules.specs.Coax.{coaxCode}
+use Rattle.rules.specs.Lessons.{AllRight, lessons, coaxLessons}
+use Rattle.rules.specs.declared.CoaxCode.{CoaxCode}
+use Rattle.rules.specs.declared.CoaxCode.the-variants.{Long, Short}
 use Rattle.rules.specs.declared.Cause.the-variants.{Shortened, Check}
 use Rattle.rules.specs.declared.Verdict.the-variants.{Accepted, Rejected}
 use Rattle.rules.proofs.Tests.{every, every-at}
@@ -20,7 +25,7 @@ use Rattle.rules.proofs.Counting.{howMany-same}
 use Rattle.rules.proofs.Checks.{only-at, only-elsewhere, check-zeros, check-only}
 
 -- the lessons on places, each by computing the whole column
-place-lessons : AllRight (take 5 lessons)
+place-lessons : AllRight fibre (take 5 lessons)
 unfolding checksOf one entry lines
 place-lessons = (refl, (refl, (refl, (refl, (refl, tt)))))
 
@@ -63,7 +68,7 @@ first-parity : (K : ℕ) → WordVerdict fibre K (only 14592) (Rejected (Check 5
 unfolding total one entry lines
 first-parity K = first-check fibre K 14592 551 3 (lit< tt) (λ m a b e. omega arith) (lit< tt) refl tt refl
 
-pub lessons-right : AllRight lessons
+pub lessons-right : AllRight fibre lessons
 lessons-right = (
   place-lessons .0,
   (
@@ -86,3 +91,27 @@ lessons-right = (
     ),
   ),
 )
+
+-- the coax codes' lessons on places, and on the word with place 0 alone
+coax-places : (k : CoaxCode) → AllRight (coaxCode k) (take 3 (coaxLessons k))
+unfolding checksOf one entry longLines shortLines
+coax-places Long = (refl, (refl, (refl, tt)))
+coax-places Short = (refl, (refl, (refl, tt)))
+
+long-zero : WordVerdict (coaxCode Long) 14400 (only 0) (Rejected (Check 267 4))
+unfolding total one entry longLines
+long-zero =
+    first-check (coaxCode Long) 14400 0 267 4 (lit< tt) (λ m a b e. omega arith) (lit< tt) refl tt refl
+
+short-zero : WordVerdict (coaxCode Short) 5040 (only 0) (Rejected (Check 38 5))
+unfolding total one entry shortLines
+short-zero =
+    first-check (coaxCode Short) 5040 0 38 5 (lit< tt) (λ m a b e. omega arith) (lit< tt) refl tt refl
+
+coax-words : (k : CoaxCode) → AllRight (coaxCode k) (drop 3 (coaxLessons k))
+coax-words Long = (zero-word (coaxCode Long) 14400, (long-zero, tt))
+coax-words Short = (zero-word (coaxCode Short) 5040, (short-zero, tt))
+
+pub coax-right : (k : CoaxCode) → AllRight (coaxCode k) (coaxLessons k)
+coax-right Long = let p = coax-places Long in (p .0, (p .1 .0, (p .1 .1 .0, coax-words Long)))
+coax-right Short = let p = coax-places Short in (p .0, (p .1 .0, (p .1 .1 .0, coax-words Short)))

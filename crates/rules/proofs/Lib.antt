@@ -1,5 +1,6 @@
 pub mod Tests
 pub mod TableLaws
+pub mod CoaxLaws
 pub mod Sums
 pub mod Counting
 pub mod Checks

@@ -2,6 +2,8 @@
 --
 --   fits c         the test of a code's table: a line for each block column, an entry for each block row, each -1 or a
 --                  turn below the block size, which fits 15 bits
+--   counts         the test of a table's counts: its entries in all, those that are not -1, and of these the ones after
+--                  so many lines
 --   table-facts    Table 142-1: 69 lines of 12 entries, 828 in all, each from -1 to 255; 275 are not -1, of which 53
 --                  are in lines 58 to 69
 --   fibre-fits     so it passes the test
@@ -52,16 +54,17 @@ abbrev over : (List ℤ → ℕ) → List (List ℤ) → ℕ
 over f [] = 0
 over f (l ∷ ls) = f l + over f ls
 
-abbrev counts : List (List ℤ) → Bool
-counts ls =
-    both (eqb (over length ls) 828) (both (eqb (over present ls) 275) (eqb (over present (drop 57 ls)) 53))
+abbrev pub counts : ℕ → ℕ → ℕ → ℕ → List (List ℤ) → Bool
+counts entries turns after later ls =
+    both (eqb (over length ls) entries)
+    (both (eqb (over present ls) turns) (eqb (over present (drop after ls)) later))
 
-pub table-facts : T (both (fits fibre) (counts lines))
+pub table-facts : T (both (fits fibre) (counts 828 275 57 53 lines))
 unfolding lines
 table-facts = tt
 
 pub fibre-fits : T (fits fibre)
-fibre-fits = both-left (fits fibre) (counts lines) table-facts
+fibre-fits = both-left (fits fibre) (counts 828 275 57 53 lines) table-facts
 
 -- in a list's range its default does not matter
 getD-any : {A : Type 0} (xs : List A) (i : ℕ) (a b : A) → i < length xs → getD xs i a ≡ getD xs i b

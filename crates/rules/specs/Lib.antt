@@ -1,6 +1,7 @@
 pub mod Bits
 pub mod Matrix
 pub mod Table
+pub mod CoaxTables
 pub mod Formats
 pub mod Words
 pub mod Verdicts
@@ -8,5 +9,6 @@ pub mod Streams
 pub mod Refusals
 pub mod Asked
 pub mod Promises
+pub mod Coax
 pub mod Lessons
 pub mod Terms

@@ -1,5 +1,6 @@
 // The rules: the verdicts, the answers and the stream that paper 01 names; and each code's numbers and table, a module
 // for each code. What they mean is defined in specs/, a module for each section of the paper.
+pub mod coax;
 pub mod fibre;
 
 // Why a word is not accepted: the lowest shortened place that is 1, the lowest failing row and how many rows fail, the
@@ -26,6 +27,12 @@ pub enum Answer {
 pub enum Judgement {
     Judged(Verdict),
     Refused(usize),
+}
+
+// The two coax codes: the longer has words of 16,200 bits, the shorter of 5,940.
+pub enum CoaxCode {
+    Long,
+    Short,
 }
 
 // The bytes of running checks that a stream holds.
