@@ -13,6 +13,8 @@ use Rattle.rules.specs.Bits.{Packed}
 use Rattle.rules.specs.Formats.{Format}
 use Rattle.rules.specs.Refusals.{tells, badCount, brokenBlock, wrongBytes, unusedSet}
 use Rattle.rules.specs.Refusals.{encodeOrder, pieceOrder, finishOrder, completeOrder, wordOrder, lineOrder}
+use Rattle.rules.specs.Coax.{coaxEncodeOrder, coaxWordOrder, coaxFinishOrder}
+use Rattle.rules.specs.Coax.{Counted, CoaxEncodeAsks, CoaxWordAsks, CoaxFinishAsks}
 use Rattle.rules.specs.Asked.{WholeBlocks, EncodeAsks, CompleteAsks, PieceAsks, FinishAsks, WordAsks, LineAsks}
 use Rattle.laws.proofs.Told.{not-refused, not-different}
 
@@ -31,6 +33,12 @@ module _ (f : Format) where
     least = not-above K (f .least) (λ l. bad (inl l));
     most = not-above (f .most) K (λ l. bad (inr l));
     whole = not-different _ _ broken;
+  }
+
+  counted : {K : ℕ} → (badCount f K .applies → ⊥) → Counted f K
+  counted {K} bad = record {
+    least = not-above K (f .least) (λ l. bad (inl l));
+    most = not-above (f .most) K (λ l. bad (inr l));
   }
 
   module _ {r : ℕ} (e : r ≡ 0) where
@@ -80,3 +88,19 @@ module _ (f : Format) where
           line = packed (not 2) (not 3);
           delimiter = not-above _ d (not 4);
         }
+
+    pub coax-encode-asked : (K : ℕ) (u : List ℕ) (room : ℕ) → tells (coaxEncodeOrder f K u room) r
+        → CoaxEncodeAsks f K u room
+    coax-encode-asked K u room t =
+        let not = not-refused (coaxEncodeOrder f K u room) tt e t in
+        record { count = counted (not 1); bytes = not-different _ _ (not 2); fits = not-above room _ (not 5) }
+
+    pub coax-word-asked : (K : ℕ) (w : List ℕ) → tells (coaxWordOrder f K w) r → CoaxWordAsks f K w
+    coax-word-asked K w t =
+        let not = not-refused (coaxWordOrder f K w) tt e t in
+        record { count = counted (not 1); word = packed (not 2) (not 3) }
+
+    pub coax-finish-asked : (held room : ℕ) → tells (coaxFinishOrder f held room) r → CoaxFinishAsks f held room
+    coax-finish-asked held room t =
+        let not = not-refused (coaxFinishOrder f held room) tt e t in
+        record { count = counted (not 1); fits = not-above room _ (not 5) }
