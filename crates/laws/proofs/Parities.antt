@@ -12,6 +12,9 @@
 --   packed-same         bytes of runs of b bits are equal where these bits are
 --   packed-run          bytes that hold b bits, and then zeros, are just the bytes of these bits
 --   packed-bits         any b bits have such bytes
+--   moved-bit           b bits that were added to bytes of zeros, from place 0 on, are these bits
+--   moved-past          after them all is 0
+--   moved-packed        and they are just the bytes of these bits, where they are as many as it takes
 --   parity-as           a parity of K bits is one of any equal K bits
 --   parity-one          the bytes of a parity with given own checks are single
 --   payload-parity      a parity whose own checks are the payload's makes every check hold
@@ -28,12 +31,12 @@ use native.Mathlib.Nat.{mul-add}
 use native.Mathlib.Omega.{arith}
 use lib.Dec.{lit<}
 use lib.ListN.{length, replicate}
-use Rattle.rules.specs.Bits.{bit, Bytes, need, zeros, run, sum, Packed, Adds}
+use Rattle.rules.specs.Bits.{bit, Bytes, need, zeros, run, placed, sum, Packed, Adds}
 use Rattle.rules.specs.Matrix.{Code, places, checks, payloadPlaces, check}
 use Rattle.rules.specs.Words.{padded, fullWord, Parity, OwnChecks}
 use Rattle.rules.proofs.Checks.{check-below, check-same, check-zeros, check-sum}
 use Rattle.laws.proofs.Bits.{bit<, bit-past, bits-same, pack, length-pack, bit-pack}
-use Rattle.laws.proofs.Runs.{run-low, run-high, run-each, run-same, run-below}
+use Rattle.laws.proofs.Runs.{run-low, run-high, run-each, run-same, run-below, run-none, placed-bits}
 use Rattle.laws.proofs.Running.{checks-again}
 use Rattle.laws.proofs.Told.{not-different}
 
@@ -104,6 +107,23 @@ module _ (b : ℕ) (x : ℕ → ℕ) where
       each : (n : ℕ) → n < 8 * need b → bit s n ≡ run b x zeros n
       each n h =
           bit-pack (need b) (run b x zeros) n h (run-below b x zeros (λ k l. below k) (λ k. lit< tt) n)
+
+module _ (b : ℕ) {x : ℕ → ℕ} (below : (n : ℕ) → x n < 2) {s t : List ℕ} (clear : (n : ℕ) → bit s n ≡ 0)
+    (a : Adds s t (placed 0 b x)) where
+  moved-each : (n : ℕ) → bit t n ≡ run b x zeros n
+  moved-each n =
+      a .each n
+      ∙ omega (arith, clear n, placed-bits 0 b x below n)
+      ∙ run-none zeros (run b x zeros) n
+
+  pub moved-bit : (n : ℕ) → n < b → bit t n ≡ x n
+  moved-bit n h = moved-each n ∙ run-low b x zeros n h
+
+  pub moved-past : (n : ℕ) → b ≤ n → bit t n ≡ 0
+  moved-past n h = moved-each n ∙ run-high b x zeros n h
+
+  pub moved-packed : length s ≡ need b → Packed b t
+  moved-packed e = packed-run b x t (a .length-same ∙ e) (λ n h. moved-each n)
 
 module _ (c : Code) where
   abbrev pub payloadChecks : (ℕ → ℕ) → ℕ → ℕ

@@ -1,3 +1,4 @@
 pub mod Recipe
 pub mod Solved
 pub mod Single
+pub mod CoaxSolved

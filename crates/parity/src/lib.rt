@@ -1,5 +1,8 @@
 // Parity of the fibre code: finds the one whose own checks are given, by a recipe.
 // Its function serves the crates above, which show what it requires; no user calls it.
+// The coax codes have a module, with recipes of their own.
+pub mod coax;
+
 ghost use mathlib.Core.Path.{_≡_};
 ghost use lib.ListN.{length};
 ghost use Rattle.rules.specs.Bits.{need};

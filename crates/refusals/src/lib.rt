@@ -1,13 +1,16 @@
 // Paper 01, 'Refusal numbers', and W4 of paper 02.
 // A test for each kind of refusal, which answers its number or 0, and each operation's order of tests. A test is given
 // its limits. None needs an earlier one: where that tells a refusal, a later test may answer anything, and no more.
+// The orders here are the fibre code's, and a piece's for any code; those of the coax codes have a module.
+pub mod coax;
+
 ghost use mathlib.Core.Path.{_≡_};
 ghost use mathlib.Core.Logic.{_⊎_};
 ghost use mathlib.Core.List.{[], _∷_};
 ghost use Prim.Native.Nat.{ℕ, _+_, _≤_, _<_};
 ghost use lib.ListN.{length};
 ghost use Rattle.rules.specs.Bits.{bit, need};
-ghost use Rattle.rules.specs.Formats.{fibreFormat};
+ghost use Rattle.rules.specs.Formats.{Format, fibreFormat};
 ghost use Rattle.rules.specs.Refusals.{refusal, tells, unusedSet};
 ghost use Rattle.rules.specs.Refusals.{encodeOrder, pieceOrder, finishOrder, completeOrder, wordOrder, lineOrder};
 ghost use Rattle.rules.specs.Terms.{FirstTold};
@@ -133,16 +136,16 @@ pub fn encode(count: usize, payload: &[u8], delimiter: usize, room: usize) -> us
     )
 }
 
-// Piece: 7, 2, 3, 6.
-pub fn piece(held: usize, count: usize, bytes: &[u8]) -> usize
-    ensures { λ r. ⌜ tells (pieceOrder fibreFormat held count (now (bytes .entry))) r ⌝ }
+// Piece: 7, 2, 3, 6. Of any code, by its most payload bits.
+pub fn piece(most: usize, held: usize, count: usize, bytes: &[u8]) -> usize
+    ensures { λ r. ⌜ ((f : Format) → f .most ≡ most → tells (pieceOrder f held count (now (bytes .entry))) r) ⌝ }
 {
     first_told(
         &[
-            above(held, fibre::PAYLOAD_MOST, 7),
+            above(held, most, 7),
             differs(bytes.len(), bits::needed(count), 2),
             unused_set(bytes, count),
-            above_with(held, count, fibre::PAYLOAD_MOST),
+            above_with(held, count, most),
         ],
     )
 }

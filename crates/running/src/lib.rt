@@ -1,6 +1,7 @@
 // The running checks: the one way in which bits reach them, for any code. A block that holds such bits is added,
 // turned, once for each entry of its line of the table. A module for each code holds its table.
 // Its functions serve the crates above, which show what they require; no user calls them.
+pub mod coax;
 pub mod fibre;
 
 ghost use Prim.Native.Nat.{_+_, _*_, _%_, _<_};

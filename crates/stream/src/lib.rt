@@ -44,7 +44,7 @@ pub fn piece(stream: Stream, count: usize, bytes: &[u8]) -> Outcome
     ensures { λ r. ⌜ PieceTaken fibreFormat count (now (bytes .entry)) stream r ⌝ }
 {
     let held = stream.held;
-    let refusal = refusals::piece(held, count, bytes);
+    let refusal = refusals::piece(fibre::PAYLOAD_MOST, held, count, bytes);
     if refusal != 0 {
         return Outcome {
             answer: Answer::Refused(refusal),

@@ -1,23 +1,23 @@
 -- `refusals::piece` meets its contract: its tests stand in the order of the definition.
 use borrow.Author.Needs.{needs}
-use Rattle.rules.specs.Formats.{fibreFormat}
+use mathlib.Core.Path.{sym}
 use Rattle.rules.specs.Refusals.{pieceOrder}
 use Rattle.laws.proofs.Told.{none, test, told-tested, not-different}
 use Rattle.refusals.proofs.piece.Statement.{statement}
 use Rattle.refusals.proofs.piece.Tie as tie
 
 returns : tie.Need-returns
-returns c =
+returns c f e =
     let sixth = c .before .before in
     let third = sixth .before in
     let second = third .before in
     let seventh = second .before .before in
     let a = seventh .before .before .args in
-    told-tested (pieceOrder fibreFormat (a .held) (a .count) (a .bytes .now)) tt (c .first-told .ensures)
-    (test (seventh .above .ensures) (λ held.
+    told-tested (pieceOrder f (a .held) (a .count) (a .bytes .now)) tt (c .first-told .ensures)
+    (test (rw (sym e) at (seventh .above .ensures)) (λ held.
     test (rw (second .before .needed .ensures) at (second .differs .ensures)) (λ bytes.
     test (third .unused-set .ensures (not-different _ _ bytes)) (λ unused.
-    test (sixth .above-with .ensures) (λ fits. none)))))
+    test (rw (sym e) at (sixth .above-with .ensures)) (λ fits. none)))))
 
 pub piece-spec : {M : Type 1} → statement M
 piece-spec =
