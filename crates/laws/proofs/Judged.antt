@@ -3,6 +3,7 @@
 --   lowest-same     two numbers that are each the lowest are equal
 --   lowest-none     a lowest number is somewhere
 --   word-same       two verdicts on one full word are equal
+--   failing-lowest  where some row fails, one before which all hold, and which fails if it is a row, is the lowest
 --   count-range     where a check fails, 1 row does at least, and no more than there are
 --   tail-verdict    a verdict beside one parity is the verdict beside another with the same sent bits
 --   line-same       two verdicts on one line word are equal, where its parity's bits are single
@@ -13,7 +14,7 @@ use native.Mathlib.Decide.{decLt}
 use native.Mathlib.Omega.{arith}
 use lib.Dec.{eqb}
 use Rattle.rules.specs.Bits.{bit}
-use Rattle.rules.specs.Matrix.{Code, checks}
+use Rattle.rules.specs.Matrix.{Code, checks, check}
 use Rattle.rules.specs.Formats.{Format}
 use Rattle.rules.specs.Words.{padded, Parity}
 use Rattle.rules.specs.Verdicts.{Lowest, Nowhere, ShortenedSet, Fails, rowFails, howMany, WordVerdict}
@@ -22,7 +23,7 @@ use Rattle.rules.specs.declared.Cause.the-variants as cause
 use Rattle.rules.specs.declared.Cause.the-variants.{Shortened, Check, Delimiter}
 use Rattle.rules.specs.declared.Verdict.{Verdict}
 use Rattle.rules.specs.declared.Verdict.the-variants.{Accepted, Rejected}
-use Rattle.rules.proofs.Counting.{howMany-some, howMany-below}
+use Rattle.rules.proofs.Counting.{howMany-none, howMany-some, howMany-below}
 
 pub lowest-same : (P : ℕ → Type 0) (a b : ℕ) → Lowest P a → Lowest P b → a ≡ b
 lowest-same P a b p q = elim (decLt a b) [
@@ -93,6 +94,15 @@ module _ (c : Code) (K : ℕ) (w : ℕ → ℕ) where
     rw (p .2) (howMany-some (checks c) (rowFails c w) n (p .1 .0 .0) (ap (λ (x : ℕ). eqb x 1) (p .1 .0 .1))),
     rw (p .2) (howMany-below (checks c) (rowFails c w)),
   )
+
+pub failing-lowest : (c : Code) (w : ℕ → ℕ) {m r : ℕ} → m ≡ howMany (checks c) (rowFails c w) → (m ≡ 0 → ⊥)
+    → ((n : ℕ) → n < r → check c n w ≡ 0) → (r < checks c → check c r w ≡ 1) → Lowest (Fails c w) r
+failing-lowest c w {r = r} counted some hold fails = elim (decLt r (checks c)) [
+  | yes h ↦ ((h, fails h), λ n l f. omega (arith, hold n l, f .1))
+  | no h ↦
+      let none = howMany-none (checks c) (rowFails c w) (λ n l. ap (λ (x : ℕ). eqb x 1) (hold n (omega arith))) in
+      absurd (some (counted ∙ none))
+]
 
 module _ (f : Format) (K : ℕ) (l : List ℕ) (d : ℕ) where
   tail-stands : (p : List ℕ) (v : Verdict) → TailVerdict f K l d p v

@@ -2,16 +2,14 @@
 --
 --   shortened-lowest, shortened-nowhere    the search of the shortened places
 --   scanned-lowest    where a row fails, the scan found the lowest
-use mathlib.Core.Path.{_≡_, ap, _∙_}
+use mathlib.Core.Path.{_≡_}
 use mathlib.Core.List.{List}
 use Prim.Native.Nat.{ℕ, _≤_, _<_}
-use native.Mathlib.Decide.{decLt}
 use native.Mathlib.Omega.{arith}
-use lib.Dec.{eqb}
 use Rattle.rules.specs.Bits.{bit}
 use Rattle.rules.specs.Matrix.{Code, checks, payloadPlaces}
 use Rattle.rules.specs.Verdicts.{Lowest, Nowhere, ShortenedSet, Fails, rowFails, howMany}
-use Rattle.rules.proofs.Counting.{howMany-none}
+use Rattle.laws.proofs.Judged.{failing-lowest}
 use Rattle.bits.specs.Searches.{FirstSet}
 use Rattle.rows.specs.Scan.{Scanned}
 
@@ -25,10 +23,4 @@ module _ (c : Code) where
 
   pub scanned-lowest : {w : ℕ → ℕ} {m r : ℕ} → m ≡ howMany (checks c) (rowFails c w) → (m ≡ 0 → ⊥) → Scanned c w r
       → Lowest (Fails c w) r
-  scanned-lowest {w} {m} {r} counted some s = elim (decLt r (checks c)) [
-    | yes h ↦ ((h, s .fails h), λ n l f. omega (arith, s .hold n l, f .1))
-    | no h ↦
-        let none =
-        howMany-none (checks c) (rowFails c w) (λ n l. ap (λ (x : ℕ). eqb x 1) (s .hold n (omega arith))) in
-        absurd (some (counted ∙ none))
-  ]
+  scanned-lowest {w} counted some s = failing-lowest c w counted some (s .hold) (s .fails)
