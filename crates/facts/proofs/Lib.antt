@@ -4,3 +4,4 @@ pub mod Breaking
 pub mod Members
 pub mod Apart
 pub mod Fibre
+pub mod Coax

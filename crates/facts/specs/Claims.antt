@@ -12,7 +12,8 @@
 --   ChangeBreaks c       one changed place of such a word always breaks a check
 --   PlacesApart c        no two different places lie in exactly the same checks
 --
--- Believe this file beside the paper; nothing here is proved. Fibre proves each claim of Table 142-1.
+-- Believe this file beside the paper; nothing here is proved. Fibre proves each claim of Table 142-1, and Coax each of
+-- Tables 101-3 and 101-4.
 use mathlib.Core.Path.{_≡_}
 use mathlib.Core.Bool.{cond}
 use Prim.Native.Nat.{ℕ, _+_, _*_, _/_, _%_, _<_}

@@ -1,6 +1,7 @@
 -- Demand 1, in plain words: each operation is done, or gives a verdict, exactly where its inputs are what it asks. Any
 -- format.
 --
+--   packed-free, counted-free    the refusals of bytes and of a count's limits do not apply
 --   X-free       where the inputs are what operation X asks, no refusal of its order applies
 --   X-exactly    X is done, or gives a verdict, exactly then
 use mathlib.Core.Path.{_≡_, ap}
@@ -14,6 +15,7 @@ use Rattle.rules.specs.Formats.{Format}
 use Rattle.rules.specs.Refusals.{badCount, brokenBlock, wrongBytes, unusedSet}
 use Rattle.rules.specs.Refusals.{encodeOrder, pieceOrder, finishOrder, completeOrder, wordOrder, lineOrder}
 use Rattle.rules.specs.Asked.{WholeBlocks, EncodeAsks, CompleteAsks, PieceAsks, FinishAsks, WordAsks, LineAsks}
+use Rattle.rules.specs.Coax.{Counted}
 use Rattle.rules.specs.Promises.{refusalOf, refusalIn}
 use Rattle.rules.specs.Promises.{Completed, WordChecked, Encoded, LineChecked, PieceTaken, Finished}
 use Rattle.rules.specs.declared.Answer.{Answer}
@@ -27,16 +29,20 @@ use Rattle.laws.proofs.Asked.{encode-asked, complete-asked, piece-asked, finish
 use Rattle.theorems.specs.Exactly.{Exactly, Free}
 use Rattle.theorems.proofs.Refusing.{done-exactly, judged-exactly}
 
--- before any others, R, the refusals of bytes and of a payload's count do not apply
-packed-free : {b : ℕ} {s : List ℕ} {R : Type 0} → Packed b s → R
+-- before any others, R, the refusals of bytes do not apply
+pub packed-free : {b : ℕ} {s : List ℕ} {R : Type 0} → Packed b s → R
     → (wrongBytes s b .applies → ⊥) × ((unusedSet s b .applies → ⊥) × R)
 packed-free p rest = (λ x. x (p .bytes), (p .unused, rest))
 
 module _ (f : Format) where
+  pub counted-free : {K : ℕ} → Counted f K → badCount f K .applies → ⊥
+  counted-free c = ⊎-elim (λ l. omega (arith, c .least)) (λ l. omega (arith, c .most))
+
+  -- before any others, R, the refusals of a payload's count do not apply
   count-free : {K : ℕ} {R : Type 0} → WholeBlocks f K → R
       → (badCount f K .applies → ⊥) × ((brokenBlock f K .applies → ⊥) × R)
   count-free w rest =
-      (⊎-elim (λ l. omega (arith, w .least)) (λ l. omega (arith, w .most)), (λ x. x (w .whole), rest))
+      (counted-free (record { least = w .least; most = w .most }), (λ x. x (w .whole), rest))
 
   encode-free : (K : ℕ) (u : List ℕ) (d room : ℕ) → EncodeAsks f K u d room → Free (encodeOrder f K u d room)
   encode-free K u d room a =

@@ -3,7 +3,9 @@
 --   word-accepted         a full word is accepted exactly when its shortened places are 0 and every check holds
 --   shortened-named       a shortened place that is named is the lowest that is 1
 --   check-named           a row that is named is the first that fails, with how many do; no shortened place is 1
---   payload-kept, completed-length, completed-holds   what completing leaves: the payload places, the bytes, the checks
+--   all-accepted, accepted-all, verdict-named    the same of the verdict alone, by whatever order
+--   payload-kept, completed-length, completed-packed, completed-holds    what completing leaves: the payload places,
+--                         the bytes, their unused bits, the checks
 --   complete-then-check   what complete leaves, the check with the same payload count accepts
 use mathlib.Core.Path.{_≡_, refl, ap, subst, _∙_}
 use mathlib.Core.List.{List}
@@ -11,11 +13,11 @@ use Prim.Native.Nat.{ℕ, _+_, _-_, _*_, _/_, _≤_, _<_}
 use native.Mathlib.Omega.{arith}
 use lib.ListN.{length, take, length-append}
 use lib.Seq.{length-take-le}
-use Rattle.rules.specs.Bits.{bit, need}
-use Rattle.rules.specs.Matrix.{places, checks, payloadPlaces, check, AllHold}
+use Rattle.rules.specs.Bits.{bit, need, Packed}
+use Rattle.rules.specs.Matrix.{Code, places, checks, payloadPlaces, check, AllHold}
 use Rattle.rules.specs.Formats.{Format}
 use Rattle.rules.specs.Words.{fullWord}
-use Rattle.rules.specs.Verdicts.{Nowhere, ShortenedSet, rowFails, howMany}
+use Rattle.rules.specs.Verdicts.{Nowhere, ShortenedSet, rowFails, howMany, WordVerdict}
 use Rattle.rules.specs.Refusals.{wordOrder}
 use Rattle.rules.specs.Asked.{CompleteAsks}
 use Rattle.rules.specs.Promises.{Completion, Completed, WordChecked}
@@ -26,8 +28,8 @@ use Rattle.rules.specs.declared.Judgement.{Judgement}
 use Rattle.rules.specs.declared.Judgement.the-variants.{Judged}
 use Rattle.rules.proofs.Checks.{check-below, check-same}
 use Rattle.laws.proofs.Bits.{bit<, bit-take, bit-front, bit-back}
-use Rattle.laws.proofs.Runs.{run-each}
-use Rattle.laws.proofs.Parities.{places-parts}
+use Rattle.laws.proofs.Runs.{run-high, run-each}
+use Rattle.laws.proofs.Parities.{places-parts, packed-clear}
 use Rattle.theorems.specs.Exactly.{Exactly}
 use Rattle.theorems.specs.Sized.{Sized}
 use Rattle.theorems.specs.Accepted.{GoodWord}
@@ -39,31 +41,51 @@ use Rattle.theorems.proofs.Asked.{complete-exactly, word-free, word-exa
 not-one : (b : ℕ) → b < 2 → (b ≡ 1 → ⊥) → b ≡ 0
 not-one b h d = omega arith
 
-module _ (f : Format) (K : ℕ) (w : List ℕ) where
+-- a verdict on the full word w, by whatever order
+module _ (c : Code) (K : ℕ) (w : List ℕ) where
   abbrev row : ℕ → ℕ
-  row n = check (f .code) n (bit w)
+  row n = check c n (bit w)
 
   row-unset : (n : ℕ) → (row n ≡ 1 → ⊥) → row n ≡ 0
-  row-unset n = not-one (row n) (check-below (f .code) n (bit w))
+  row-unset n = not-one (row n) (check-below c n (bit w))
 
-  unset : Nowhere (ShortenedSet (f .code) K (bit w)) → (n : ℕ) → K ≤ n → n < payloadPlaces (f .code) → bit w n ≡ 0
+  unset : Nowhere (ShortenedSet c K (bit w)) → (n : ℕ) → K ≤ n → n < payloadPlaces c → bit w n ≡ 0
   unset none n a b = not-one (bit w n) (bit< w n) (λ e. none n (a, b, e))
 
+  pub all-accepted : ((n : ℕ) → K ≤ n → n < payloadPlaces c → bit w n ≡ 0) → AllHold c (bit w)
+      → WordVerdict c K (bit w) Accepted
+  all-accepted shortened hold = (
+    λ n s. omega (arith, shortened n (s .0) (s .1), s .2),
+    λ n s. omega (arith, hold n (s .0), s .1),
+  )
+
+  pub accepted-all : WordVerdict c K (bit w) Accepted
+      → ((n : ℕ) → K ≤ n → n < payloadPlaces c → bit w n ≡ 0) × AllHold c (bit w)
+  accepted-all v = (unset (v .0), λ n h. row-unset n (λ e. v .1 n (h, e)))
+
+  pub verdict-named : (n m : ℕ) → WordVerdict c K (bit w) (Rejected (Check n m))
+      → ((k : ℕ) → K ≤ k → k < payloadPlaces c → bit w k ≡ 0) × (n < checks c) × (check c n (bit w) ≡ 1)
+      × ((k : ℕ) → k < n → check c k (bit w) ≡ 0) × (m ≡ howMany (checks c) (rowFails c (bit w)))
+  verdict-named n m v =
+      let below : (k : ℕ) → k < n → row k ≡ 0 =
+      λ k l. row-unset k (λ e. v .1 .1 k l (omega (arith, l, v .1 .0 .0), e)) in
+      (unset (v .0), v .1 .0 .0, v .1 .0 .1, below, v .2)
+
+module _ (f : Format) (K : ℕ) (w : List ℕ) where
   good-word : GoodWord f K w → WordChecked f K w (Judged Accepted)
   good-word g = record {
     told = free-told (wordOrder f K w) (word-free f K w (g .asked));
-    verdict = (
-      λ n s. omega (arith, g .shortened n (s .0) (s .1), s .2),
-      λ n s. omega (arith, g .all-hold n (s .0), s .1),
-    );
+    verdict = all-accepted (f .code) K w (g .shortened) (g .all-hold);
   }
 
   word-good : WordChecked f K w (Judged Accepted) → GoodWord f K w
-  word-good x = record {
-    asked = word-exactly f K w (Judged Accepted) x .0 (Accepted, refl);
-    shortened = unset (x .verdict .0);
-    all-hold = λ n h. row-unset n (λ e. x .verdict .1 n (h, e));
-  }
+  word-good x =
+      let all = accepted-all (f .code) K w (x .verdict) in
+      record {
+        asked = word-exactly f K w (Judged Accepted) x .0 (Accepted, refl);
+        shortened = all .0;
+        all-hold = all .1;
+      }
 
   pub word-accepted : (j : Judgement) → WordChecked f K w j → Exactly (j ≡ Judged Accepted) (GoodWord f K w)
   word-accepted j x = (
@@ -83,11 +105,7 @@ module _ (f : Format) (K : ℕ) (w : List ℕ) where
       → ((k : ℕ) → K ≤ k → k < payloadPlaces (f .code) → bit w k ≡ 0) × (n < checks (f .code))
       × (check (f .code) n (bit w) ≡ 1) × ((k : ℕ) → k < n → check (f .code) k (bit w) ≡ 0)
       × (m ≡ howMany (checks (f .code)) (rowFails (f .code) (bit w)))
-  check-named n m x =
-      let v = x .verdict in
-      let below : (k : ℕ) → k < n → row k ≡ 0 =
-      λ k l. row-unset k (λ e. v .1 .1 k l (omega (arith, l, v .1 .0 .0), e)) in
-      (unset (v .0), v .1 .0 .0, v .1 .0 .1, below, v .2)
+  check-named n m x = verdict-named (f .code) K w n m (x .verdict)
 
 -- a full word w that was completed to w′, by whatever order
 module _ (f : Format) (sized : Sized f) (w w′ : List ℕ) (bytes : length w ≡ need (places (f .code)))
@@ -124,6 +142,21 @@ module _ (f : Format) (sized : Sized f) (w w′ : List ℕ) (bytes : length w �
       ∙ length-append (take frontBytes w) p
       ∙ omega (arith, front-length, front-bits, x .1 .packed .bytes, places-parts (f .code) (sized .rows))
 
+  pub completed-packed : Packed (places (f .code)) w′
+  completed-packed = record {
+    bytes = completed-length;
+    unused = λ u.
+        let parts = places-parts (f .code) (sized .rows) in
+        let high = run-high (payloadPlaces (f .code)) (bit w) (bit p) (u .0) (omega (arith, u .1)) in
+        omega (
+          arith,
+          word-bit (u .0),
+          high,
+          u .2,
+          packed-clear (x .1 .packed) (u .0 - payloadPlaces (f .code)) (omega (arith, u .1)),
+        );
+  }
+
   pub completed-holds : AllHold (f .code) (bit w′)
   completed-holds n h =
       check-same (f .code) n (bit w′) (fullWord (f .code) (bit w) p) (λ m l. word-bit m) ∙ x .1 .all-hold n h
@@ -138,7 +171,7 @@ module _ (f : Format) (sized : Sized f) (K : ℕ) (w w′ : List ℕ) (c : Compl
       let kept = payload-kept f sized w w′ bytes (c .effect) in
       record {
         asked = record { count = complete-asks .count; bytes = completed-length f sized w w′ bytes (c .effect) };
-        shortened = λ n a b. kept n b ∙ unset f K w (complete-asks .shortened) n a b;
+        shortened = λ n a b. kept n b ∙ unset (f .code) K w (complete-asks .shortened) n a b;
         all-hold = completed-holds f sized w w′ bytes (c .effect);
       }
 

@@ -6,3 +6,6 @@ pub mod Lines
 pub mod Streams
 pub mod Fibre
 pub mod Host
+pub mod Coax
+pub mod CoaxWords
+pub mod CoaxStreams

@@ -2,7 +2,9 @@
 --
 --   line-accepted          a line word is accepted exactly when some punctured bits complete it and its delimiter is
 --                          the one given
+--   good-line              of such a line word, the answer Accepted fits the promise
 --   encode-exact           what encode writes is the line word of whatever parity makes every check hold
+--   encoded-good           what encode writes is such a line word
 --   encode-then-check      what encode writes, the line check accepts with the same payload count and delimiter
 --   accepted-is-encoded    a line word that is accepted is the one that encode writes for its payload
 use mathlib.Core.Path.{_≡_, refl, sym, subst, _∙_}
@@ -119,7 +121,7 @@ module _ (f : Format) (one : OneParity (f .code)) (sized : Sized f) where
             packed-bits (checks (f .code)) (run (f .sent) (λ n. bit l (K + n)) (bit q))
             (run-below (f .sent) (λ n. bit l (K + n)) (bit q) (λ n h. bit< l (K + n)) (bit< q))
 
-    good-line : GoodLine f K l d → LineChecked f K l d (Judged Accepted)
+    pub good-line : GoodLine f K l d → LineChecked f K l d (Judged Accepted)
     good-line g = record {
       told = free-told (lineOrder f K l d) (line-free f K l d (g .asked));
       verdict = completed-line (g .completed .0) (g .completed .1);
@@ -165,7 +167,7 @@ module _ (f : Format) (one : OneParity (f .code)) (sized : Sized f) where
       tail-accepted f K l d p (λ n h. line-bit (K + n) (omega arith) ∙ line-high f K (bit u) p d n),
     )
 
-    encoded-good : GoodLine f K l d
+    pub encoded-good : GoodLine f K l d
     encoded-good = record {
       asked = record { count = encode-asks .count; line = line-packed; delimiter = encode-asks .delimiter };
       completed = line-completed K l d verdict;

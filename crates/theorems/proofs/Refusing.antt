@@ -8,6 +8,7 @@
 --   judged-exactly  and a check gives a verdict exactly there
 --   none-done       an operation that is told no refusal is done
 --   done-part       what a done operation leaves
+--   kept-part       what an operation leaves that is not done
 --   X-kept          where operation X is not done, every byte and every stream is as it was
 use mathlib.Core.Path.{_≡_, refl, ap}
 use mathlib.Core.Logic.{inr}
@@ -50,10 +51,9 @@ pub done-part : {o : List Refusal} {A B : Type 0} (a : Answer) → a ≡ Done �
 done-part Done e x = x .effect
 done-part (Refused n) e x = absurd (omega (arith, ap refusalOf e, x .effect .0))
 
--- what an operation leaves that is not done
-kept : {o : List Refusal} {A B : Type 0} (a : Answer) → (a ≡ Done → ⊥) → Promise o a A B → B
-kept Done d x = absurd (d refl)
-kept (Refused n) d x = x .effect .1
+pub kept-part : {o : List Refusal} {A B : Type 0} (a : Answer) → (a ≡ Done → ⊥) → Promise o a A B → B
+kept-part Done d x = absurd (d refl)
+kept-part (Refused n) d x = x .effect .1
 
 module _ (o : List Refusal) (h : T (numbered o)) where
   pub done-exactly : {A B : Type 0} (a : Answer) → Promise o a A B → Exactly (a ≡ Done) (Free o)
@@ -70,16 +70,16 @@ module _ (o : List Refusal) (h : T (numbered o)) where
 
 module _ (f : Format) where
   pub complete-kept : (K : ℕ) (w : List ℕ) (a : Answer) (w′ : List ℕ) → (a ≡ Done → ⊥) → Completed f K w a w′ → w′ ≡ w
-  complete-kept K w a w′ d x = kept a d x
+  complete-kept K w a w′ d x = kept-part a d x
 
   pub encode-kept : (K : ℕ) (u : List ℕ) (d : ℕ) (o : List ℕ) (a : Answer) (o′ : List ℕ) → (a ≡ Done → ⊥)
       → Encoded f K u d o a o′ → o′ ≡ o
-  encode-kept K u d o a o′ n x = kept a n x
+  encode-kept K u d o a o′ n x = kept-part a n x
 
   pub piece-kept : (b : ℕ) (s : List ℕ) (t : Stream) (r : Outcome) → (r .answer ≡ Done → ⊥) → PieceTaken f b s t r
       → r .stream ≡ t
-  piece-kept b s t r d x = kept (r .answer) d x
+  piece-kept b s t r d x = kept-part (r .answer) d x
 
   pub finish-kept : (d : ℕ) (t : Stream) (o : List ℕ) (r : Outcome) (o′ : List ℕ) → (r .answer ≡ Done → ⊥)
       → Finished f d t o r o′ → (r .stream ≡ t) × (o′ ≡ o)
-  finish-kept d t o r o′ n x = kept (r .answer) n x
+  finish-kept d t o r o′ n x = kept-part (r .answer) n x

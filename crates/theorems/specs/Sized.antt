@@ -7,7 +7,7 @@
 --     most        the longest payload fits the payload places
 --     sent        no more parity places are sent than there are
 --
--- Believe this file beside the paper. Fibre proves it of the fibre code's format.
+-- Believe this file beside the paper. Fibre proves it of the fibre code's format, and Coax of the coax codes'.
 use mathlib.Core.Path.{_≡_}
 use Prim.Native.Nat.{_%_, _≤_, _<_}
 use Rattle.rules.specs.Matrix.{checks, payloadPlaces}
