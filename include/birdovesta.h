@@ -1,5 +1,7 @@
 /* Birdovesta for C: encode a payload into a line word,
- * check a full word, check a line word.
+ * check a full word, check a line word. The same for
+ * the two coax codes: encode a payload into a word,
+ * check a word.
  *
  * Link libhost.a (x86-64 Linux). Nothing is allocated,
  * nothing is kept from one call to the next.
@@ -21,6 +23,15 @@
  *             0 to 2,559, then the delimiter's 10 bits,
  *             lowest first
  *
+ * The coax codes are named by the bits of their words.
+ * Nothing is shortened, and there is no delimiter.
+ *
+ * code 16200  16,200 bits in 2,025 bytes: 14,400 payload
+ *             bits, then 1,800 parity bits
+ * code 5940   5,940 bits in 743 bytes: 5,040 payload
+ *             bits, then 900 parity bits; the last byte
+ *             has 4 unused bits
+ *
  *
  * What the caller answers for
  *
@@ -28,8 +39,9 @@
  * - Each pointer leads to at least as many bytes as the
  *   count beside it says. It isn't NULL, even where the
  *   count is 0.
- * - The bytes to be written (line, in the encoder)
- *   overlap no other bytes that the call is lent.
+ * - The bytes to be written (line or word, in the
+ *   encoders) overlap no other bytes that the call is
+ *   lent.
  * - Nobody else writes to any of them during the call.
  * All else is tested and refused by a number.
  *
@@ -57,6 +69,13 @@
  *      its lowest differing bit, 0 to 9
  *   For the other causes count is 0.
  *
+ * In the calls of a coax code:
+ * - Refusal 1: bits is not 14,400 (code 16200), or not
+ *   5,040 (code 5940).
+ * - Refusals 4 and 10 don't arise.
+ * - The only cause is 2, check. The row is 0 to 1,799,
+ *   or 0 to 899; count is 1 to 1,800, or 1 to 900.
+ *
  * A refused call leaves every byte as it was. Where
  * several numbers fit, the first in the call's order is
  * given. The checks write nothing at all.
@@ -78,6 +97,9 @@
  *   BIRDOVESTA_ENCODE_STACK
  *   BIRDOVESTA_CHECK_WORD_STACK
  *   BIRDOVESTA_CHECK_LINE_STACK
+ *   BIRDOVESTA_ENCODE_COAX_STACK
+ *   BIRDOVESTA_CHECK_COAX_STACK
+ * The last two are for both coax codes.
  * Measured for every K and every kind of answer, and
  * rounded up. What is the host's own is not counted:
  * - What memcpy and memset take.
@@ -115,10 +137,16 @@ enum birdovesta_cause {
 #define BIRDOVESTA_WORD_BYTES 2208
 #define BIRDOVESTA_LINE_BYTES(K) (((K) + 2570 + 7) / 8)
 
+/* Bytes of a word of each coax code. */
+#define BIRDOVESTA_WORD_16200_BYTES 2025
+#define BIRDOVESTA_WORD_5940_BYTES 743
+
 /* Bytes of stack that each call takes at most. */
 #define BIRDOVESTA_ENCODE_STACK 8192
 #define BIRDOVESTA_CHECK_WORD_STACK 4096
 #define BIRDOVESTA_CHECK_LINE_STACK 8192
+#define BIRDOVESTA_ENCODE_COAX_STACK 8192
+#define BIRDOVESTA_CHECK_COAX_STACK 4096
 
 /* The parts of an answer above 65,535. */
 #define BIRDOVESTA_CAUSE(answer) ((answer) >> 32)
@@ -163,6 +191,56 @@ uint64_t birdovesta_check_line(
     size_t bits,
     const uint8_t *line, size_t line_bytes,
     size_t delimiter);
+
+/* Encode by the coax code 16200.
+ * Writes the payload, then its parity, to the start of
+ * word. Later bytes of word are untouched.
+ * bits:          14,400.
+ * payload_bytes: 1,800.
+ * word_bytes:    at least 2,025.
+ * Refusals, in order: 1, 2, 5.
+ */
+uint64_t birdovesta_encode_16200(
+    size_t bits,
+    const uint8_t *payload, size_t payload_bytes,
+    uint8_t *word, size_t word_bytes);
+
+/* Check a word of the coax code 16200.
+ * Accepted where all 1,800 checks hold. Else the cause
+ * is check.
+ * bits:       14,400.
+ * word_bytes: 2,025. No bit of them is unused, so
+ *             refusal 3 doesn't arise.
+ * Refusals, in order: 1, 2, 3.
+ */
+uint64_t birdovesta_check_16200(
+    size_t bits,
+    const uint8_t *word, size_t word_bytes);
+
+/* Encode by the coax code 5940.
+ * Writes the payload, then its parity, to the start of
+ * word, and 0 in the 4 unused bits. Later bytes of word
+ * are untouched.
+ * bits:          5,040.
+ * payload_bytes: 630.
+ * word_bytes:    at least 743.
+ * Refusals, in order: 1, 2, 5.
+ */
+uint64_t birdovesta_encode_5940(
+    size_t bits,
+    const uint8_t *payload, size_t payload_bytes,
+    uint8_t *word, size_t word_bytes);
+
+/* Check a word of the coax code 5940.
+ * Accepted where all 900 checks hold. Else the cause is
+ * check.
+ * bits:       5,040.
+ * word_bytes: 743.
+ * Refusals, in order: 1, 2, 3.
+ */
+uint64_t birdovesta_check_5940(
+    size_t bits,
+    const uint8_t *word, size_t word_bytes);
 
 #ifdef __cplusplus
 }

@@ -1,4 +1,5 @@
-//! The benchmark's program: every call on full-size payloads, ours and the yardstick's.
+//! The benchmark's program: every call on full-size payloads, ours and the yardstick's. Those of the fibre code are
+//! here, those of the coax codes in coax.rs.
 //!   bench compare     compares them on a few words, and measures nothing; ends with `N cases, M wrong`
 //!   bench count       makes each call on all words, between two marks for count.c
 //!   bench time        times each, and says the median of several runs
@@ -12,6 +13,11 @@
 
 #[path = "../yardstick/archive.rs"]
 mod archive;
+mod coax;
+#[path = "../yardstick/coax.rs"]
+mod coax_paper;
+#[path = "../yardstick/coax_tables.rs"]
+mod coax_tables;
 mod measured;
 #[path = "../yardstick/paper.rs"]
 mod paper;
@@ -35,14 +41,27 @@ const DELIMITER: usize = 341;
 const TAIL_BYTES: usize = 322;
 
 #[derive(Clone, Copy)]
-enum Call {
+pub enum Call {
     Encode,
+    /// The check of a full word, or of a coax word.
     Word,
     Line,
     Complete,
     Finish,
     /// A stream in pieces of so many bits, the last one shorter where they don't divide the payload, and its finish.
     Pieces(usize),
+}
+
+/// What is measured of a code.
+pub trait Bench {
+    /// Its calls, with their names.
+    fn calls(&self) -> Vec<(String, Call)>;
+    /// Makes all ready for a call on so many words.
+    fn prepare(&mut self, call: Call, words: usize);
+    /// Makes it on them. Each answer's number is added to the sum that comes back: 0 where all is fine.
+    fn run(&mut self, call: Call, engine: Engine, words: usize) -> u64;
+    /// How many words differ, in the answer or in a byte, or are not answered by 0.
+    fn compare(&mut self, call: Call, words: usize) -> usize;
 }
 
 /// The sizes make 1, 8, 57 and 14,392 pieces; 256 bits are a block.
@@ -77,12 +96,12 @@ struct Sample {
 }
 
 #[derive(Clone, Copy)]
-enum Engine {
+pub enum Engine {
     Ours,
     Rust,
 }
 
-struct Bench {
+struct Fibre {
     code: Code,
     columns: Columns,
     samples: Vec<Sample>,
@@ -99,13 +118,13 @@ fn words_of(call: Call, most: usize) -> usize {
     }
 }
 
-/// The payload in pieces of so many bits.
-fn cut(payload: &[u8], size: usize) -> Vec<u8> {
+/// The payload, of so many bits, in pieces of a size.
+pub fn cut(payload: &[u8], bits: usize, size: usize) -> Vec<u8> {
     let mut pieces = Vec::new();
-    for at in (0..PAYLOAD_MOST).step_by(size) {
+    for at in (0..bits).step_by(size) {
         let from = pieces.len();
         pieces.resize(from + bytes_for(size), 0);
-        for place in 0..size.min(PAYLOAD_MOST - at) {
+        for place in 0..size.min(bits - at) {
             if bit(payload, at + place) == 1 {
                 flip(&mut pieces[from..], place);
             }
@@ -114,16 +133,16 @@ fn cut(payload: &[u8], size: usize) -> Vec<u8> {
     pieces
 }
 
-/// Calls what is given once for each piece: its bits and its bytes.
-fn each_piece(pieces: &[u8], size: usize, mut take: impl FnMut(usize, usize, &[u8])) {
+/// Calls what is given once for each piece: the bits held before it, its own, and its bytes.
+pub fn each_piece(pieces: &[u8], bits: usize, size: usize, mut take: impl FnMut(usize, usize, &[u8])) {
     for (n, bytes) in pieces.chunks(bytes_for(size)).enumerate() {
         let held = n * size;
-        let count = size.min(PAYLOAD_MOST - held);
+        let count = size.min(bits - held);
         take(held, count, &bytes[..bytes_for(count)]);
     }
 }
 
-/// One call of the proved crates. Each answer's number is added to the sum that comes back: 0 where all is fine.
+/// One call of the proved crates. A stream's answers are added up.
 fn call_ours(call: Call, sample: &Sample, out: &mut Written) -> u64 {
     match call {
         Call::Encode => archive::encode(PAYLOAD_MOST, &sample.payload, DELIMITER, &mut out.line),
@@ -134,7 +153,7 @@ fn call_ours(call: Call, sample: &Sample, out: &mut Written) -> u64 {
         Call::Pieces(size) => {
             let mut answers = 0;
             out.checks.fill(0);
-            each_piece(&sample.pieces, size, |held, count, bytes| {
+            each_piece(&sample.pieces, PAYLOAD_MOST, size, |held, count, bytes| {
                 answers += measured::piece(held, &mut out.checks, count, bytes);
             });
             answers + measured::finish(PAYLOAD_MOST, &mut out.checks, DELIMITER, &mut out.tail)
@@ -160,7 +179,7 @@ fn call_rust(call: Call, sample: &Sample, out: &mut Written, code: &Code, column
         Call::Pieces(size) => {
             let mut answers = 0;
             let mut stream = Stream::fresh();
-            each_piece(&sample.pieces, size, |_, count, bytes| {
+            each_piece(&sample.pieces, PAYLOAD_MOST, size, |_, count, bytes| {
                 answers += stream.piece(columns, count, bytes).number();
             });
             answers + finish_rust(stream, out, code)
@@ -175,8 +194,8 @@ fn finish_rust(mut stream: Stream, out: &mut Written, code: &Code) -> u64 {
     answer.number()
 }
 
-impl Bench {
-    fn new(words: usize) -> Bench {
+impl Fibre {
+    fn new(words: usize) -> Fibre {
         let code = Code::new();
         let columns = Columns::new(&code);
         let mut random = random::Random(142);
@@ -198,15 +217,37 @@ impl Bench {
         };
         let ours: Vec<Written> = samples.iter().map(blank).collect();
         let rust = ours.clone();
-        Bench { code, columns, samples, ours, rust }
+        Fibre { code, columns, samples, ours, rust }
     }
 
-    /// What is ready before a call: the pieces, and the inputs that it writes over.
+    /// Whether both answer each piece alike and leave the same running checks after it.
+    fn pieces_same(&self, call: Call, n: usize) -> bool {
+        let size = match call {
+            Call::Pieces(size) => size,
+            _ => return true,
+        };
+        let mut rust = Stream::fresh();
+        let mut ours = rust.checks.clone();
+        let mut same = true;
+        each_piece(&self.samples[n].pieces, PAYLOAD_MOST, size, |held, count, bytes| {
+            let answer = measured::piece(held, &mut ours, count, bytes);
+            same &= answer == rust.piece(&self.columns, count, bytes).number() && ours == rust.checks;
+        });
+        same
+    }
+}
+
+impl Bench for Fibre {
+    fn calls(&self) -> Vec<(String, Call)> {
+        CALLS.map(|(name, call)| (name.to_string(), call)).to_vec()
+    }
+
+    /// The pieces, and the inputs that it writes over.
     fn prepare(&mut self, call: Call, words: usize) {
         for n in 0..words {
             let sample = &mut self.samples[n];
             if let Call::Pieces(size) = call {
-                sample.pieces = cut(&sample.payload, size);
+                sample.pieces = cut(&sample.payload, PAYLOAD_MOST, size);
             }
             for out in [&mut self.ours[n], &mut self.rust[n]] {
                 out.checks.copy_from_slice(&sample.checks);
@@ -229,7 +270,6 @@ impl Bench {
         answers
     }
 
-    /// How many words differ, in the answer or in a byte, or are not answered by 0.
     fn compare(&mut self, call: Call, words: usize) -> usize {
         self.prepare(call, words);
         let (code, columns) = (&self.code, &self.columns);
@@ -242,45 +282,29 @@ impl Bench {
         }
         wrong
     }
+}
 
-    /// Whether both answer each piece alike and leave the same running checks after it.
-    fn pieces_same(&self, call: Call, n: usize) -> bool {
-        let size = match call {
-            Call::Pieces(size) => size,
-            _ => return true,
-        };
-        let mut rust = Stream::fresh();
-        let mut ours = rust.checks.clone();
-        let mut same = true;
-        each_piece(&self.samples[n].pieces, size, |held, count, bytes| {
-            let answer = measured::piece(held, &mut ours, count, bytes);
-            same &= answer == rust.piece(&self.columns, count, bytes).number() && ours == rust.checks;
-        });
-        same
-    }
+/// A mark is a yield: a system call, which the counter sees.
+fn count(bench: &mut dyn Bench, call: Call, engine: Engine, words: usize) -> u64 {
+    bench.prepare(call, words);
+    std::thread::yield_now();
+    let answers = bench.run(call, engine, words);
+    std::thread::yield_now();
+    assert!(answers == 0, "a word was refused or not accepted");
+    0
+}
 
-    /// A mark is a yield: a system call, which the counter sees.
-    fn count(&mut self, call: Call, engine: Engine, words: usize) -> u64 {
-        self.prepare(call, words);
-        std::thread::yield_now();
-        let answers = self.run(call, engine, words);
-        std::thread::yield_now();
+fn time(bench: &mut dyn Bench, call: Call, engine: Engine, words: usize) -> u64 {
+    let mut spent = [0; RUNS];
+    for time in &mut spent {
+        bench.prepare(call, words);
+        let start = Instant::now();
+        let answers = bench.run(call, engine, words);
+        *time = start.elapsed().as_nanos() as u64 / words as u64;
         assert!(answers == 0, "a word was refused or not accepted");
-        0
     }
-
-    fn time(&mut self, call: Call, engine: Engine, words: usize) -> u64 {
-        let mut spent = [0; RUNS];
-        for time in &mut spent {
-            self.prepare(call, words);
-            let start = Instant::now();
-            let answers = self.run(call, engine, words);
-            *time = start.elapsed().as_nanos() as u64 / words as u64;
-            assert!(answers == 0, "a word was refused or not accepted");
-        }
-        spent.sort();
-        spent[RUNS / 2]
-    }
+    spent.sort();
+    spent[RUNS / 2]
 }
 
 fn main() {
@@ -290,29 +314,34 @@ fn main() {
         "count" | "time" => WORDS,
         _ => panic!("bench compare, count or time"),
     };
-    let mut bench = Bench::new(most);
+    let [large, small] = coax::codes(most);
+    let mut benches: [Box<dyn Bench>; 3] = [Box::new(Fibre::new(most)), Box::new(large), Box::new(small)];
     let (mut cases, mut wrong) = (0, 0);
-    for (name, call) in CALLS {
-        let words = words_of(call, most);
-        let differing = bench.compare(call, words);
-        if differing > 0 {
-            println!("wrong {}, {} of {} words", name, differing, words);
+    for bench in &mut benches {
+        for (name, call) in bench.calls() {
+            let words = words_of(call, most);
+            let differing = bench.compare(call, words);
+            if differing > 0 {
+                println!("wrong {}, {} of {} words", name, differing, words);
+            }
+            cases += words;
+            wrong += differing;
         }
-        cases += words;
-        wrong += differing;
     }
     if mode == "compare" || wrong > 0 {
         println!("{} cases, {} wrong", cases, wrong);
         std::process::exit(i32::from(wrong > 0));
     }
-    for (name, call) in CALLS {
-        let words = words_of(call, most);
-        for (engine, whose) in [(Engine::Ours, "ours"), (Engine::Rust, "Rust")] {
-            let nanoseconds = match mode.as_str() {
-                "time" => bench.time(call, engine, words),
-                _ => bench.count(call, engine, words),
-            };
-            println!("{} {} {} {}", nanoseconds, words, whose, name);
+    for bench in &mut benches {
+        for (name, call) in bench.calls() {
+            let words = words_of(call, most);
+            for (engine, whose) in [(Engine::Ours, "ours"), (Engine::Rust, "Rust")] {
+                let nanoseconds = match mode.as_str() {
+                    "time" => time(bench.as_mut(), call, engine, words),
+                    _ => count(bench.as_mut(), call, engine, words),
+                };
+                println!("{} {} {} {}", nanoseconds, words, whose, name);
+            }
         }
     }
 }

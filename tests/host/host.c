@@ -1,8 +1,10 @@
 /* The bench host in C, against include/birdovesta.h and the
  * archive: the lessons of paper 01's sheet that go through
- * its three calls, and that nothing else is touched.
+ * its calls, the same for the coax codes of W8, and that
+ * nothing else is touched.
  *
- * Every expected value is from paper 01. Each fact takes a
+ * Every expected value is from paper 01 or, for the coax
+ * codes, from W8 and source document 001. Each fact takes a
  * call's answer, and every byte of the three buffers later,
  * guard bytes on both sides included.
  *
@@ -115,7 +117,7 @@ static uint64_t verdict(uint64_t cause, uint64_t count, uint64_t place)
     return (cause << 32) + (count << 16) + place;
 }
 
-/* The three calls, on the three buffers. */
+/* The calls of the fibre code, on the three buffers. */
 
 static uint64_t encode(size_t bits, size_t bytes, size_t delimiter, size_t room)
 {
@@ -352,12 +354,178 @@ static void there_and_back(void)
     fact("16 counts K: no other byte moved", others);
 }
 
+/* The coax codes */
+
+/* A place, how many checks it is in, and the lowest. */
+struct place {
+    size_t place;
+    unsigned count, row;
+};
+
+static const struct coax {
+    const char *name;
+    size_t payload_bits, payload_bytes, places, word_bytes;
+    uint64_t (*encode)(size_t, const uint8_t *, size_t, uint8_t *, size_t);
+    uint64_t (*check)(size_t, const uint8_t *, size_t);
+    /* From the tables: the first and the last place of the
+     * payload and of the parity. */
+    struct place lessons[4];
+    uint64_t lowest; /* of both payload places */
+} coax_codes[] = {
+    { "16200", 14400, 1800, 16200, BIRDOVESTA_WORD_16200_BYTES,
+        birdovesta_encode_16200, birdovesta_check_16200,
+        { { 0, 4, 267 }, { 14399, 4, 199 }, { 14400, 2, 217 }, { 16199, 1, 1799 } }, 199 },
+    { "5940", 5040, 630, 5940, BIRDOVESTA_WORD_5940_BYTES,
+        birdovesta_encode_5940, birdovesta_check_5940,
+        { { 0, 5, 38 }, { 5039, 4, 275 }, { 5040, 2, 158 }, { 5939, 1, 880 } }, 38 },
+};
+
+/* A fact of a code: its name goes before the text. */
+static void told_of(const struct coax *code, const char *text, uint64_t answer, uint64_t expected)
+{
+    char named[120];
+    snprintf(named, sizeof named, "%s, %s", code->name, text);
+    told(named, answer, expected);
+}
+
+static uint64_t encode_coax(const struct coax *code, size_t bits, size_t bytes, size_t room)
+{
+    return code->encode(bits, lent(&payload), bytes, lent(&word), room);
+}
+
+static uint64_t check_coax(const struct coax *code, size_t bits, size_t bytes)
+{
+    return code->check(bits, lent(&word), bytes);
+}
+
+/* A word of zeros. */
+static void zero_word(const struct coax *code)
+{
+    begin();
+    zeros(&word, code->word_bytes);
+    nothing_changes();
+}
+
+static void coax_word_lessons(const struct coax *code)
+{
+    size_t bits = code->payload_bits, bytes = code->word_bytes;
+    zero_word(code);
+    told_of(code, "all 0: accepted", check_coax(code, bits, bytes), 0);
+
+    for (size_t n = 0; n < 4; n++) {
+        const struct place *lesson = &code->lessons[n];
+        char text[80];
+        snprintf(text, sizeof text, "bit %zu: %u fails %u",
+            lesson->place, lesson->row, lesson->count);
+        zero_word(code);
+        flip(&word, lesson->place);
+        nothing_changes();
+        told_of(code, text, check_coax(code, bits, bytes), verdict(BIRDOVESTA_CHECK, lesson->count, lesson->row));
+    }
+
+    /* No check has both places. */
+    zero_word(code);
+    flip(&word, code->lessons[0].place);
+    flip(&word, code->lessons[1].place);
+    nothing_changes();
+    told_of(code, "first and last payload bit", check_coax(code, bits, bytes),
+        verdict(BIRDOVESTA_CHECK, code->lessons[0].count + code->lessons[1].count, code->lowest));
+
+    zero_word(code);
+    told_of(code, "word, 0 bits: refusal 1", check_coax(code, 0, bytes), 1);
+    told_of(code, "word, bits - 1: refusal 1", check_coax(code, bits - 1, bytes), 1);
+    told_of(code, "word, bits + 1: refusal 1", check_coax(code, bits + 1, bytes), 1);
+    told_of(code, "word, all bits: refusal 1", check_coax(code, code->places, bytes), 1);
+    told_of(code, "word, 257 bits: refusal 1", check_coax(code, LEAST, bytes), 1);
+    told_of(code, "0 bits, 0 bytes: refusal 1", check_coax(code, 0, 0), 1);
+    told_of(code, "word of 0 bytes: refusal 2", check_coax(code, bits, 0), 2);
+    told_of(code, "word, bytes - 1: refusal 2", check_coax(code, bits, bytes - 1), 2);
+    told_of(code, "word, bytes + 1: refusal 2", check_coax(code, bits, bytes + 1), 2);
+
+    int all = 1;
+    for (size_t place = code->places; place < 8 * bytes; place++) {
+        zero_word(code);
+        flip(&word, place);
+        nothing_changes();
+        all &= check_coax(code, bits, bytes) == 3 && check_coax(code, bits, bytes + 1) == 2
+            && check_coax(code, 0, bytes) == 1 && bytes_right();
+    }
+    if (code->places < 8 * bytes)
+        fact("5940, each unused bit: refusal 3", all);
+}
+
+static void coax_encoder_lessons(const struct coax *code)
+{
+    size_t bits = code->payload_bits, bytes = code->payload_bytes, needed = code->word_bytes;
+    begin();
+    zeros(&payload, bytes);
+    nothing_changes();
+    zeros(&word_later, needed);
+    told_of(code, "payload of zeros: zeros", encode_coax(code, bits, bytes, needed), 0);
+
+    begin();
+    zeros(&payload, bytes);
+    nothing_changes();
+    zeros(&word_later, needed);
+    told_of(code, "zeros, room to spare", encode_coax(code, bits, bytes, MOST), 0);
+
+    begin();
+    nothing_changes();
+    told_of(code, "0 bits: refusal 1", encode_coax(code, 0, 0, MOST), 1);
+    told_of(code, "bits - 1: refusal 1", encode_coax(code, bits - 1, bytes, MOST), 1);
+    told_of(code, "bits + 1: refusal 1", encode_coax(code, bits + 1, bytes + 1, MOST), 1);
+    told_of(code, "14392 bits: refusal 1", encode_coax(code, PAYLOAD_MOST, 1799, MOST), 1);
+    told_of(code, "1 before 2 and 5", encode_coax(code, bits - 1, 0, 0), 1);
+    told_of(code, "no bytes: refusal 2", encode_coax(code, bits, 0, MOST), 2);
+    told_of(code, "bytes - 1: refusal 2", encode_coax(code, bits, bytes - 1, MOST), 2);
+    told_of(code, "bytes + 1: refusal 2", encode_coax(code, bits, bytes + 1, MOST), 2);
+    told_of(code, "2 before 5", encode_coax(code, bits, bytes + 1, 0), 2);
+    told_of(code, "room - 1: refusal 5", encode_coax(code, bits, bytes, needed - 1), 5);
+    told_of(code, "room 0: refusal 5", encode_coax(code, bits, bytes, 0), 5);
+}
+
+/* From the encoder to the check: the payload comes first, and
+ * the check accepts it. The parity of such a payload is not
+ * in the papers, so it is taken as written. */
+static void coax_there_and_back(const struct coax *code)
+{
+    size_t bits = code->payload_bits, bytes = code->payload_bytes, needed = code->word_bytes;
+    begin();
+    nothing_changes();
+    uint64_t answer = encode_coax(code, bits, bytes, MOST);
+    memcpy(lent(&word_later), lent(&payload), bytes);
+    memcpy(lent(&word_later) + bytes, lent(&word) + bytes, needed - bytes);
+    told_of(code, "any payload comes first", answer, 0);
+    told_of(code, "its word is accepted", check_coax(code, bits, needed), 0);
+
+    /* In a word whose checks hold, a place spoils its own. */
+    for (size_t n = 0; n < 4; n++) {
+        const struct place *lesson = &code->lessons[n];
+        char text[80];
+        snprintf(text, sizeof text, "its bit %zu spoilt", lesson->place);
+        flip(&word, lesson->place);
+        nothing_changes();
+        told_of(code, text, check_coax(code, bits, needed), verdict(BIRDOVESTA_CHECK, lesson->count, lesson->row));
+        flip(&word, lesson->place);
+    }
+}
+
+static void coax_lessons(void)
+{
+    for (size_t n = 0; n < sizeof coax_codes / sizeof *coax_codes; n++) {
+        coax_word_lessons(&coax_codes[n]);
+        coax_encoder_lessons(&coax_codes[n]);
+        coax_there_and_back(&coax_codes[n]);
+    }
+}
+
 int main(void)
 {
     full_word_lessons();
     encoder_lessons();
     line_lessons();
     there_and_back();
+    coax_lessons();
     printf("%u right, %u wrong\n", right, wrong);
     return wrong > 0;
 }

@@ -1,5 +1,6 @@
-/* The stack that each call takes, against the three macros of
- * include/birdovesta.h.
+/* The stack that each call takes, against the macros of
+ * include/birdovesta.h. The coax codes share theirs, so each
+ * of their calls is measured for both.
  *
  * A call is run on a stack of its own, every byte of which is
  * set to one value before. The deepest byte that has changed
@@ -9,8 +10,9 @@
  * is measured: where the C library is linked dynamically, its
  * functions may be looked up at their first call.
  *
- * The inputs lead to every kind of answer, for each K. What
- * must be answered is from paper 01, and is compared too.
+ * The inputs lead to every kind of answer, for each K and for
+ * each coax code. What must be answered is from paper 01 and
+ * W8, and is compared too.
  *
  * Prints one fact a line, of at most 40 characters, and ends
  * with `N right, M wrong`. Exit status 1 if any is wrong.
@@ -69,6 +71,25 @@ static void check_line(void)
     answer = birdovesta_check_line(bits, line, bytes, delimiter);
 }
 
+static const struct coax {
+    size_t payload_bits, places, word_bytes;
+    uint64_t (*encode)(size_t, const uint8_t *, size_t, uint8_t *, size_t);
+    uint64_t (*check)(size_t, const uint8_t *, size_t);
+} coax_codes[] = {
+    { 14400, 16200, BIRDOVESTA_WORD_16200_BYTES, birdovesta_encode_16200, birdovesta_check_16200 },
+    { 5040, 5940, BIRDOVESTA_WORD_5940_BYTES, birdovesta_encode_5940, birdovesta_check_5940 },
+}, *code;
+
+static void encode_coax(void)
+{
+    answer = code->encode(bits, payload, bytes, word, room);
+}
+
+static void check_coax(void)
+{
+    answer = code->check(bits, word, bytes);
+}
+
 /* Measuring */
 
 static _Alignas(64) uint8_t stack[STACK];
@@ -120,6 +141,9 @@ struct measured {
 static struct measured of_encode = { "encode", encode, BIRDOVESTA_ENCODE_STACK, 0, 0, 0 };
 static struct measured of_word = { "check_word", check_word, BIRDOVESTA_CHECK_WORD_STACK, 0, 0, 0 };
 static struct measured of_line = { "check_line", check_line, BIRDOVESTA_CHECK_LINE_STACK, 0, 0, 0 };
+
+static struct measured of_encode_coax = { "encode_coax", encode_coax, BIRDOVESTA_ENCODE_COAX_STACK, 0, 0, 0 };
+static struct measured of_check_coax = { "check_coax", check_coax, BIRDOVESTA_CHECK_COAX_STACK, 0, 0, 0 };
 
 /* A cause as it stands in an answer; count and place are left open. */
 static uint64_t cause(uint64_t number)
@@ -251,6 +275,56 @@ static void line_words(void)
     bits--;
 }
 
+static void coax_encodings(void)
+{
+    size_t needed = code->word_bytes;
+    bits = code->payload_bits;
+    for (int kind = 0; kind < 3; kind++) {
+        put_payload(kind);
+        room = needed;
+        input(&of_encode_coax, 0);
+        room = MOST;
+        input(&of_encode_coax, 0);
+    }
+    room = needed - 1;
+    input(&of_encode_coax, 5);
+    bytes++;
+    input(&of_encode_coax, 2);
+    bits++;
+    input(&of_encode_coax, 1);
+}
+
+static void coax_words(void)
+{
+    size_t needed = code->word_bytes;
+    bits = code->payload_bits;
+    bytes = needed;
+    memset(word, 0, sizeof word);
+    input(&of_check_coax, 0);
+    size_t spoilt[] = { 0, bits - 1, bits, code->places - 1 };
+    for (size_t n = 0; n < sizeof spoilt / sizeof *spoilt; n++) {
+        memset(word, 0, sizeof word);
+        flip(word, spoilt[n]);
+        input(&of_check_coax, cause(BIRDOVESTA_CHECK));
+    }
+    memset(word, 0, sizeof word);
+    fill(word, code->places / 8);
+    input(&of_check_coax, cause(BIRDOVESTA_CHECK));
+    put_payload(2);
+    room = needed;
+    encode_coax();
+    bytes = needed;
+    input(&of_check_coax, 0);
+    if (code->places % 8 > 0) {
+        flip(word, code->places);
+        input(&of_check_coax, 3);
+    }
+    bytes--;
+    input(&of_check_coax, 2);
+    bits++;
+    input(&of_check_coax, 1);
+}
+
 static void facts(const struct measured *of)
 {
     char text[80];
@@ -273,9 +347,15 @@ int main(void)
     input(&of_encode, 1);
     input(&of_word, 1);
     input(&of_line, 1);
+    for (code = coax_codes; code < coax_codes + sizeof coax_codes / sizeof *coax_codes; code++) {
+        coax_encodings();
+        coax_words();
+    }
     facts(&of_encode);
     facts(&of_word);
     facts(&of_line);
+    facts(&of_encode_coax);
+    facts(&of_check_coax);
     printf("%u right, %u wrong\n", right, wrong);
     return wrong > 0;
 }

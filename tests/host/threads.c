@@ -1,9 +1,10 @@
-/* Threads that make all three calls at once, each with inputs
- * of its own and with bytes that all of them read. Each must
- * get what the same calls gave when nobody else made any.
+/* Threads that make all calls at once, those of the coax codes
+ * too, each with inputs of its own and with bytes that all of
+ * them read. Each must get what the same calls gave when
+ * nobody else made any.
  *
  * What the calls give alone is taken as it is: host.c and the
- * yardstick compare that with paper 01.
+ * yardstick compare that with the papers.
  *
  * Prints one fact a line, of at most 40 characters, and ends
  * with `N right, M wrong`. Exit status 1 if any is wrong.
@@ -21,19 +22,36 @@ enum {
     BLOCK = 257, /* a data block */
     SENT = 2560,
     COMMON = 407, /* the common delimiter */
+    CODES = 2, /* the coax codes */
     MOST = 2304 /* the most bytes lent */
+};
+
+static const struct coax {
+    size_t payload_bits, word_bytes;
+    uint64_t (*encode)(size_t, const uint8_t *, size_t, uint8_t *, size_t);
+    uint64_t (*check)(size_t, const uint8_t *, size_t);
+} codes[CODES] = {
+    { 14400, BIRDOVESTA_WORD_16200_BYTES, birdovesta_encode_16200, birdovesta_check_16200 },
+    { 5040, BIRDOVESTA_WORD_5940_BYTES, birdovesta_encode_5940, birdovesta_check_5940 },
 };
 
 /* What a thread reads. Those of index THREADS are read by all. */
 struct input {
     size_t bits, delimiter;
     uint8_t payload[MOST], word[MOST], line[MOST], spoilt[MOST];
+    struct {
+        uint8_t payload[MOST], word[MOST], spoilt[MOST];
+    } coax[CODES];
 };
 
 /* What it gets: the answers, and the bytes written. */
 struct output {
     uint64_t encode[3], word[2], line[3];
     uint8_t own[MOST], common[MOST];
+    struct coax_output {
+        uint64_t encode[3], check[3];
+        uint8_t own[MOST], common[MOST];
+    } coax[CODES];
 };
 
 static struct input inputs[THREADS + 1];
@@ -41,7 +59,7 @@ static struct output alone[THREADS];
 
 /* How often a thread's answers were others than alone. */
 static struct differences {
-    unsigned encode, word, line;
+    unsigned encode, word, line, encode_coax, check_coax;
 } differences[THREADS];
 
 static pthread_barrier_t gate;
@@ -73,6 +91,27 @@ static uint64_t check_line(const struct input *in, const uint8_t *line, size_t d
     return birdovesta_check_line(in->bits, line, BIRDOVESTA_LINE_BYTES(in->bits), delimiter);
 }
 
+static uint64_t encode_coax(const struct input *in, size_t n, uint8_t *word, size_t room)
+{
+    size_t bits = codes[n].payload_bits;
+    return codes[n].encode(bits, in->coax[n].payload, bits / 8, word, room);
+}
+
+static uint64_t check_coax(size_t n, const uint8_t *word)
+{
+    return codes[n].check(codes[n].payload_bits, word, codes[n].word_bytes);
+}
+
+static void coax_calls(const struct input *own, const struct input *common, size_t n, struct coax_output *out)
+{
+    out->encode[0] = encode_coax(own, n, out->own, MOST);
+    out->check[0] = check_coax(n, own->coax[n].word);
+    out->encode[1] = encode_coax(common, n, out->common, MOST);
+    out->check[1] = check_coax(n, own->coax[n].spoilt);
+    out->encode[2] = encode_coax(own, n, out->own, 0);
+    out->check[2] = check_coax(n, common->coax[n].spoilt);
+}
+
 static void round_of_calls(size_t thread, struct output *out)
 {
     const struct input *own = &inputs[thread], *common = &inputs[THREADS];
@@ -85,6 +124,11 @@ static void round_of_calls(size_t thread, struct output *out)
     out->word[1] = check_word(common);
     out->encode[2] = encode(own, 1024, out->own);
     out->line[2] = check_line(common, common->line, own->delimiter);
+    /* The codes by turns, so that threads are in both. */
+    for (size_t n = 0; n < CODES; n++) {
+        size_t turn = (thread + n) % CODES;
+        coax_calls(own, common, turn, &out->coax[turn]);
+    }
 }
 
 /* A thread */
@@ -96,6 +140,13 @@ static void compare(struct differences *count, const struct output *got, const s
         || memcmp(got->common, meant->common, sizeof got->common) != 0;
     count->word += memcmp(got->word, meant->word, sizeof got->word) != 0;
     count->line += memcmp(got->line, meant->line, sizeof got->line) != 0;
+    for (size_t n = 0; n < CODES; n++) {
+        const struct coax_output *one = &got->coax[n], *other = &meant->coax[n];
+        count->encode_coax += memcmp(one->encode, other->encode, sizeof one->encode) != 0
+            || memcmp(one->own, other->own, sizeof one->own) != 0
+            || memcmp(one->common, other->common, sizeof one->common) != 0;
+        count->check_coax += memcmp(one->check, other->check, sizeof one->check) != 0;
+    }
 }
 
 static void *rounds(void *number)
@@ -139,6 +190,21 @@ static void make(size_t n)
     encode(in, in->delimiter, in->line);
     memcpy(in->spoilt, in->line, MOST);
     flip(in->spoilt, in->bits + (n + 1) * (SENT / THREADS / 2));
+    for (size_t c = 0; c < CODES; c++) {
+        fill(in->coax[c].payload, codes[c].payload_bits / 8);
+        encode_coax(in, c, in->coax[c].word, MOST);
+        memcpy(in->coax[c].spoilt, in->coax[c].word, MOST);
+        flip(in->coax[c].spoilt, 29 * n);
+    }
+}
+
+static int coax_differs(const struct output *one, const struct output *other)
+{
+    int differ = 1;
+    for (size_t c = 0; c < CODES; c++)
+        differ &= memcmp(one->coax[c].own, other->coax[c].own, MOST) != 0
+            && one->coax[c].check[1] != other->coax[c].check[1];
+    return differ;
 }
 
 /* Whether a thread's answers would be noticed in another's. */
@@ -151,7 +217,8 @@ static int all_differ(void)
                 && memcmp(alone[n].common, alone[other].common, MOST) != 0
                 && alone[n].word[0] != alone[other].word[0]
                 && alone[n].line[1] != alone[other].line[1]
-                && alone[n].line[2] != alone[other].line[2];
+                && alone[n].line[2] != alone[other].line[2]
+                && coax_differs(&alone[n], &alone[other]);
     return differ;
 }
 
@@ -175,16 +242,20 @@ int main(void)
             return 1;
         }
     }
-    struct differences sum = { 0, 0, 0 };
+    struct differences sum = { 0, 0, 0, 0, 0 };
     for (size_t n = 0; n < THREADS; n++) {
         pthread_join(threads[n], NULL);
         sum.encode += differences[n].encode;
         sum.word += differences[n].word;
         sum.line += differences[n].line;
+        sum.encode_coax += differences[n].encode_coax;
+        sum.check_coax += differences[n].check_coax;
     }
     fact("encode, 8 at once as alone", sum.encode == 0);
     fact("check_word, 8 at once as alone", sum.word == 0);
     fact("check_line, 8 at once as alone", sum.line == 0);
+    fact("encode_coax, 8 at once as alone", sum.encode_coax == 0);
+    fact("check_coax, 8 at once as alone", sum.check_coax == 0);
     fact("no byte that is read has moved", memcmp(before, inputs, sizeof inputs) == 0);
     printf("%u right, %u wrong\n", right, wrong);
     return wrong > 0;

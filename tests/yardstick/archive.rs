@@ -1,4 +1,5 @@
-//! The three calls of the archive, as include/birdovesta.h has them. A slice is passed as pointer and count.
+//! The calls of the archive, as include/birdovesta.h has them: three of the fibre code, two of each coax code. A slice
+//! is passed as pointer and count.
 
 extern "C" {
     fn birdovesta_encode(
@@ -11,6 +12,22 @@ extern "C" {
     ) -> u64;
     fn birdovesta_check_word(bits: usize, word: *const u8, word_bytes: usize) -> u64;
     fn birdovesta_check_line(bits: usize, line: *const u8, line_bytes: usize, delimiter: usize) -> u64;
+    fn birdovesta_encode_16200(
+        bits: usize,
+        payload: *const u8,
+        payload_bytes: usize,
+        word: *mut u8,
+        word_bytes: usize,
+    ) -> u64;
+    fn birdovesta_check_16200(bits: usize, word: *const u8, word_bytes: usize) -> u64;
+    fn birdovesta_encode_5940(
+        bits: usize,
+        payload: *const u8,
+        payload_bytes: usize,
+        word: *mut u8,
+        word_bytes: usize,
+    ) -> u64;
+    fn birdovesta_check_5940(bits: usize, word: *const u8, word_bytes: usize) -> u64;
 }
 
 pub fn encode(bits: usize, payload: &[u8], delimiter: usize, line: &mut [u8]) -> u64 {
@@ -23,4 +40,23 @@ pub fn check_word(bits: usize, word: &[u8]) -> u64 {
 
 pub fn check_line(bits: usize, line: &[u8], delimiter: usize) -> u64 {
     unsafe { birdovesta_check_line(bits, line.as_ptr(), line.len(), delimiter) }
+}
+
+/// The calls of a coax code.
+pub struct CoaxCalls {
+    encode: unsafe extern "C" fn(usize, *const u8, usize, *mut u8, usize) -> u64,
+    check: unsafe extern "C" fn(usize, *const u8, usize) -> u64,
+}
+
+pub const COAX_16200: CoaxCalls = CoaxCalls { encode: birdovesta_encode_16200, check: birdovesta_check_16200 };
+pub const COAX_5940: CoaxCalls = CoaxCalls { encode: birdovesta_encode_5940, check: birdovesta_check_5940 };
+
+impl CoaxCalls {
+    pub fn encode(&self, bits: usize, payload: &[u8], word: &mut [u8]) -> u64 {
+        unsafe { (self.encode)(bits, payload.as_ptr(), payload.len(), word.as_mut_ptr(), word.len()) }
+    }
+
+    pub fn check(&self, bits: usize, word: &[u8]) -> u64 {
+        unsafe { (self.check)(bits, word.as_ptr(), word.len()) }
+    }
 }

@@ -1,18 +1,24 @@
-//! Compares the archive with the yardstick (paper.rs) over seeded cases: the answer's number, and every byte
-//! that was lent, with guard bytes on both sides. Prints how often each answer was reached and ends with
-//! `N cases, M wrong`. The exit status is 1 if anything differs, or if some answer was never reached.
+//! Compares the archive with the yardstick over seeded cases: the answer's number, and every byte that was lent, with
+//! guard bytes on both sides. The cases of the fibre code (paper.rs) are here, those of the coax codes (coax.rs) in
+//! coax_cases.rs. Prints how often each answer was reached and ends with `N cases, M wrong`. The exit status is 1 if
+//! anything differs, or if some answer was never reached.
 //! Another seed than the usual one can be given as the only argument.
 
 mod archive;
+mod cases;
+#[allow(dead_code)]
+mod coax;
+mod coax_cases;
+mod coax_tables;
 mod paper;
 mod random;
+#[allow(dead_code)]
+mod stream;
 mod table;
 
+use cases::*;
+use coax::Coax;
 use paper::*;
-use random::Random;
-
-const SEED: u64 = 142;
-const GUARD: usize = 64;
 
 /// The refusals of each call, in its order.
 const ENCODE: [u64; 6] = [1, 10, 2, 3, 4, 5];
@@ -24,158 +30,89 @@ const FINE_EACH: usize = 16;
 const DAMAGED_EACH: usize = 60;
 const REFUSED_EACH: usize = 16;
 
-/// Bytes to be lent, with guard bytes on both sides.
-struct Lent {
-    all: Vec<u8>,
-}
-
-impl Lent {
-    fn new(random: &mut Random, bytes: &[u8]) -> Lent {
-        let mut all = random.bytes(GUARD);
-        all.extend(bytes);
-        all.extend(random.bytes(GUARD));
-        Lent { all }
+/// All that must be reached, in the order in which it is printed.
+fn names() -> Vec<String> {
+    let mut names = vec!["encode written".to_string()];
+    let orders: [(&str, &[u64]); 3] = [("encode", &ENCODE), ("word", &WORD), ("line", &LINE)];
+    for verdict in ["word accepted", "word shortened"] {
+        names.push(verdict.to_string());
     }
-
-    fn part(&mut self) -> &mut [u8] {
-        let end = self.all.len() - GUARD;
-        &mut self.all[GUARD..end]
+    for verdict in ["word check, 1 row", "word check, more rows", "word check, every row"] {
+        names.push(verdict.to_string());
     }
-}
-
-/// What was reached, in the order in which it is printed.
-struct Reached {
-    counts: Vec<(String, usize)>,
-}
-
-impl Reached {
-    fn new() -> Reached {
-        let mut names = vec!["encode written".to_string()];
-        let orders: [(&str, &[u64]); 3] = [("encode", &ENCODE), ("word", &WORD), ("line", &LINE)];
-        for verdict in ["word accepted", "word shortened"] {
-            names.push(verdict.to_string());
-        }
-        for verdict in ["word check, 1 row", "word check, more rows", "word check, every row"] {
-            names.push(verdict.to_string());
-        }
-        for verdict in ["line accepted", "line parity", "line delimiter"] {
-            names.push(verdict.to_string());
-        }
-        for (call, order) in orders {
-            names.extend(order.iter().map(|n| format!("{} refusal {}", call, n)));
-        }
-        for (call, order) in orders {
-            names.extend(sets_of(order).iter().filter(|faults| faults.len() == 2).map(|faults| before(call, faults)));
-        }
-        for other in ["word shortened before check", "word shortened, checks hold", "line parity before delimiter"] {
-            names.push(other.to_string());
-        }
-        for room in ["encode with room to spare", "encode with room one short"] {
-            names.push(room.to_string());
-        }
-        for (call, _) in orders {
-            names.extend((0..8).map(|remainder| fine_by_remainder(call, remainder)));
-        }
-        Reached { counts: names.into_iter().map(|name| (name, 0)).collect() }
+    for verdict in ["line accepted", "line parity", "line delimiter"] {
+        names.push(verdict.to_string());
     }
-
-    fn add(&mut self, name: &str) {
-        let entry = self.counts.iter_mut().find(|entry| entry.0 == name);
-        entry.unwrap_or_else(|| panic!("{} is not in the list", name)).1 += 1;
+    for (call, order) in orders {
+        names.extend(order.iter().map(|n| format!("{} refusal {}", call, n)));
     }
-}
-
-fn before(call: &str, faults: &[u64]) -> String {
-    format!("{} {} before {}", call, faults[0], faults[1])
+    for (call, order) in orders {
+        names.extend(all_pairs(call, order));
+    }
+    for other in ["word shortened before check", "word shortened, checks hold", "line parity before delimiter"] {
+        names.push(other.to_string());
+    }
+    for room in ["encode with room to spare", "encode with room one short"] {
+        names.push(room.to_string());
+    }
+    for (call, _) in orders {
+        names.extend((0..8).map(|remainder| fine_by_remainder(call, remainder)));
+    }
+    names
 }
 
 fn fine_by_remainder(call: &str, remainder: usize) -> String {
     format!("{} fine, K mod 8 is {}", call, remainder)
 }
 
-fn name_of(call: &str, answer: Answer) -> String {
-    match answer {
-        Answer::Fine if call == "encode" => "encode written".to_string(),
-        Answer::Fine => format!("{} accepted", call),
-        Answer::Refused(n) => format!("{} refusal {}", call, n),
-        Answer::Shortened(_) => format!("{} shortened", call),
-        Answer::Check(_, 1) => format!("{} check, 1 row", call),
-        Answer::Check(_, CHECKS) => format!("{} check, every row", call),
-        Answer::Check(_, _) => format!("{} check, more rows", call),
-        Answer::Parity(_) => format!("{} parity", call),
-        Answer::Delimiter(_) => format!("{} delimiter", call),
-    }
-}
-
 struct Comparison {
     code: Code,
-    random: Random,
-    reached: Reached,
-    cases: usize,
-    wrong: usize,
+    cases: Cases,
 }
 
 impl Comparison {
-    fn complain(&mut self, what: &str) {
-        self.wrong += 1;
-        if self.wrong <= 20 {
-            println!("wrong: {}", what);
-        }
-    }
-
-    /// One case: the yardstick's answer, the one that the case was made for (if it was made for one), the
-    /// archive's, and whether every lent byte is as it must be.
     fn judge(&mut self, call: &str, k: usize, ours: Answer, made_for: Option<Answer>, told: u64, bytes_right: bool) {
-        self.cases += 1;
-        self.reached.add(&name_of(call, ours));
+        self.cases.reach(&name_of(call, ours, CHECKS));
         if ours == Answer::Fine {
-            self.reached.add(&fine_by_remainder(call, k % 8));
+            self.cases.reach(&fine_by_remainder(call, k % 8));
         }
-        if let Some(meant) = made_for.filter(|&meant| meant != ours) {
-            self.complain(&format!("yardstick, {} K {}\n  {:?}, not {:?}", call, k, ours, meant));
-        }
-        if told != ours.number() {
-            self.complain(&format!("{} K {}\n  told {}, not {}", call, k, told, ours.number()));
-        } else if !bytes_right {
-            self.complain(&format!("{} K {}\n  told {}, bytes differ", call, k, told));
-        }
+        self.cases.judge(&format!("{} K {}", call, k), ours, made_for, told, bytes_right);
     }
 
     fn encode(&mut self, k: usize, u: &[u8], delimiter: usize, room: usize, made_for: Option<Answer>) {
         let (ours, word) = self.code.encode(k, u, delimiter, room);
-        let mut payload = Lent::new(&mut self.random, u);
-        let old = self.random.bytes(room);
-        let mut line = Lent::new(&mut self.random, &old);
+        let mut payload = Lent::new(&mut self.cases.random, u);
+        let old = self.cases.random.bytes(room);
+        let mut line = Lent::new(&mut self.cases.random, &old);
         let payload_later = payload.all.clone();
-        let mut line_later = line.all.clone();
-        line_later[GUARD..GUARD + word.len()].copy_from_slice(&word);
+        let line_later = line.with(&word);
         let told = archive::encode(k, payload.part(), delimiter, line.part());
         let bytes_right = payload.all == payload_later && line.all == line_later;
         if ours == Answer::Fine && room > word.len() {
-            self.reached.add("encode with room to spare");
+            self.cases.reach("encode with room to spare");
         }
         if ours == Answer::Refused(5) && room + 1 == bytes_for(line_bits(k)) {
-            self.reached.add("encode with room one short");
+            self.cases.reach("encode with room one short");
         }
         self.judge("encode", k, ours, made_for, told, bytes_right);
     }
 
     fn check_word(&mut self, k: usize, bytes: &[u8], made_for: Option<Answer>) {
         let ours = self.code.check_word(k, bytes);
-        let mut word = Lent::new(&mut self.random, bytes);
+        let mut word = Lent::new(&mut self.cases.random, bytes);
         let later = word.all.clone();
         let told = archive::check_word(k, word.part());
         let bytes_right = word.all == later;
         if let Answer::Shortened(_) = ours {
             let fails = self.code.checks(bytes).contains(&true);
-            self.reached.add(if fails { "word shortened before check" } else { "word shortened, checks hold" });
+            self.cases.reach(if fails { "word shortened before check" } else { "word shortened, checks hold" });
         }
         self.judge("word", k, ours, made_for, told, bytes_right);
     }
 
     fn check_line(&mut self, k: usize, bytes: &[u8], delimiter: usize, made_for: Option<Answer>) {
         let ours = self.code.check_line(k, bytes, delimiter);
-        let mut line = Lent::new(&mut self.random, bytes);
+        let mut line = Lent::new(&mut self.cases.random, bytes);
         let later = line.all.clone();
         let told = archive::check_line(k, line.part(), delimiter);
         let bytes_right = line.all == later;
@@ -189,7 +126,7 @@ impl Comparison {
         let most = PAYLOAD_MOST / DATA_BLOCK - (8 - remainder) % 8;
         let blocks = match size {
             0 => least,
-            1 => least + 8 * self.random.below((most - least) / 8 + 1),
+            1 => least + 8 * self.cases.random.below((most - least) / 8 + 1),
             _ => most,
         };
         DATA_BLOCK * blocks
@@ -197,13 +134,13 @@ impl Comparison {
 
     /// A payload count with a broken block: 1 more or 1 less than whole blocks, blocks of 256 bits, or any.
     fn broken_count(&mut self) -> usize {
-        let blocks = 1 + self.random.below(PAYLOAD_MOST / DATA_BLOCK - 1);
-        match self.random.below(5) {
+        let blocks = 1 + self.cases.random.below(PAYLOAD_MOST / DATA_BLOCK - 1);
+        match self.cases.random.below(5) {
             0 => 1,
             1 => DATA_BLOCK * blocks + 1,
             2 => DATA_BLOCK * blocks - 1,
             3 => (DATA_BLOCK - 1) * blocks,
-            _ => DATA_BLOCK * blocks + 1 + self.random.below(DATA_BLOCK - 1),
+            _ => DATA_BLOCK * blocks + 1 + self.cases.random.below(DATA_BLOCK - 1),
         }
     }
 
@@ -212,24 +149,15 @@ impl Comparison {
         self.count(n % 8, n / 8 % 3)
     }
 
-    /// A payload of K bits: zeros, ones, one bit alone, or (most often) random.
     fn payload(&mut self, k: usize) -> Vec<u8> {
-        let mut bytes = vec![0; bytes_for(k)];
-        match self.random.below(8) {
-            0 => {}
-            1 => bytes.fill(255),
-            2 => flip(&mut bytes, self.random.below(k)),
-            _ => bytes = self.random.bytes(bytes_for(k)),
-        }
-        clear_from(&mut bytes, k);
-        bytes
+        payload(&mut self.cases.random, k)
     }
 
     fn delimiter(&mut self) -> usize {
-        match self.random.below(4) {
+        match self.cases.random.below(4) {
             0 => 0,
             1 => DELIMITER_MOST,
-            _ => self.random.below(DELIMITER_MOST + 1),
+            _ => self.cases.random.below(DELIMITER_MOST + 1),
         }
     }
 
@@ -256,11 +184,8 @@ impl Comparison {
         word
     }
 
-    /// Inverts a few bits of places from..to.
     fn damage(&mut self, bytes: &mut [u8], from: usize, to: usize) {
-        for _ in 0..1 + self.random.below(3) {
-            flip(bytes, from + self.random.below(to - from));
-        }
+        damage(&mut self.cases.random, bytes, from, to);
     }
 
     // Cases without a fault.
@@ -270,7 +195,7 @@ impl Comparison {
             let k = self.any_count(n);
             let u = self.payload(k);
             let delimiter = self.delimiter();
-            let spare = if n % 2 == 0 { 0 } else { 1 + self.random.below(80) };
+            let spare = if n % 2 == 0 { 0 } else { 1 + self.cases.random.below(80) };
             self.encode(k, &u, delimiter, bytes_for(line_bits(k)) + spare, Some(Answer::Fine));
             let word = self.word_of(k);
             self.check_word(k, &word, Some(Answer::Fine));
@@ -294,27 +219,27 @@ impl Comparison {
 
             // a punctured place alone: it counts in a full word
             let mut word = self.word_of(k);
-            flip(&mut word, PAYLOAD_PLACES + SENT + self.random.below(PLACES - PAYLOAD_PLACES - SENT));
+            flip(&mut word, PAYLOAD_PLACES + SENT + self.cases.random.below(PLACES - PAYLOAD_PLACES - SENT));
             self.check_word(k, &word, None);
 
             // one check alone fails
-            let row = [0, 1, 255, 256, 2815, 2816, 3071, self.random.below(CHECKS)][n % 8];
+            let row = [0, 1, 255, 256, 2815, 2816, 3071, self.cases.random.below(CHECKS)][n % 8];
             let word = self.failing_word(k, &[row]);
             self.check_word(k, &word, Some(Answer::Check(row, 1)));
 
             // all rows from one to another fail: 2, some, or every one
             let from = [row.min(CHECKS - 2), row, 0][n % 3];
-            let to = [from + 2, row + 1 + self.random.below(CHECKS - row), CHECKS][n % 3];
+            let to = [from + 2, row + 1 + self.cases.random.below(CHECKS - row), CHECKS][n % 3];
             let word = self.failing_word(k, &(from..to).collect::<Vec<_>>());
             self.check_word(k, &word, Some(Answer::Check(from, to - from)));
 
             // of some rows, far apart, each fails
-            let rows: Vec<usize> = (row..CHECKS).step_by(1 + self.random.below(CHECKS)).collect();
+            let rows: Vec<usize> = (row..CHECKS).step_by(1 + self.cases.random.below(CHECKS)).collect();
             let word = self.failing_word(k, &rows);
             self.check_word(k, &word, Some(Answer::Check(row, rows.len())));
 
             // shortened, and checks fail: the lowest, the highest, any
-            let place = [k, PAYLOAD_PLACES - 1, k + self.random.below(PAYLOAD_PLACES - k)][n % 3];
+            let place = [k, PAYLOAD_PLACES - 1, k + self.cases.random.below(PAYLOAD_PLACES - k)][n % 3];
             let mut word = self.word_of(k);
             flip(&mut word, place);
             self.check_word(k, &word, Some(Answer::Shortened(place)));
@@ -335,7 +260,7 @@ impl Comparison {
             self.check_word(k, &word, Some(Answer::Shortened(place)));
 
             // bytes with no meaning
-            let word = self.random.bytes(WORD_BYTES);
+            let word = self.cases.random.bytes(WORD_BYTES);
             self.check_word(k, &word, None);
         }
     }
@@ -348,19 +273,19 @@ impl Comparison {
             self.damage(&mut line, 0, k);
             self.check_line(k, &line, delimiter, None);
 
-            let place = [0, SENT - 1, self.random.below(SENT)][n % 3];
+            let place = [0, SENT - 1, self.cases.random.below(SENT)][n % 3];
             let mut line = self.line_of(k, delimiter);
             flip(&mut line, k + place);
             self.check_line(k, &line, delimiter, Some(Answer::Parity(place)));
             self.damage(&mut line, k, k + SENT);
             self.check_line(k, &line, delimiter, None);
 
-            let at = [0, DELIMITER_BITS - 1, self.random.below(DELIMITER_BITS)][n % 3];
+            let at = [0, DELIMITER_BITS - 1, self.cases.random.below(DELIMITER_BITS)][n % 3];
             let mut line = self.line_of(k, delimiter);
             flip(&mut line, k + SENT + at);
             self.check_line(k, &line, delimiter, Some(Answer::Delimiter(at)));
             flip(&mut line, k + place);
-            self.reached.add("line parity before delimiter");
+            self.cases.reach("line parity before delimiter");
             self.check_line(k, &line, delimiter, Some(Answer::Parity(place)));
 
             let line = self.line_of(k, delimiter);
@@ -368,7 +293,7 @@ impl Comparison {
             self.check_line(k, &line, other, None);
 
             // bytes with no meaning
-            let mut line = self.random.bytes(bytes_for(line_bits(k)));
+            let mut line = self.cases.random.bytes(bytes_for(line_bits(k)));
             clear_from(&mut line, line_bits(k));
             self.check_line(k, &line, delimiter, None);
         }
@@ -381,19 +306,19 @@ impl Comparison {
     fn faulty_count(&mut self, n: usize, faults: &[u64], huge: bool, run: fn(usize) -> usize) -> usize {
         loop {
             let k = if faults.contains(&1) {
-                match self.random.below(if huge { 7 } else { 3 }) {
+                match self.cases.random.below(if huge { 7 } else { 3 }) {
                     0 => 0,
                     1 => PAYLOAD_MOST + 1,
-                    2 => PAYLOAD_MOST + 1 + self.random.below(300),
-                    3 => (1 << 16) + 1 + self.random.below(PAYLOAD_MOST),
-                    4 => (1 << 32) + 1 + self.random.below(PAYLOAD_MOST),
-                    5 => (1 << 63) + 1 + self.random.below(PAYLOAD_MOST),
-                    _ => usize::MAX - self.random.below(3000),
+                    2 => PAYLOAD_MOST + 1 + self.cases.random.below(300),
+                    3 => (1 << 16) + 1 + self.cases.random.below(PAYLOAD_MOST),
+                    4 => (1 << 32) + 1 + self.cases.random.below(PAYLOAD_MOST),
+                    5 => (1 << 63) + 1 + self.cases.random.below(PAYLOAD_MOST),
+                    _ => usize::MAX - self.cases.random.below(3000),
                 }
             } else if faults.contains(&10) {
                 self.broken_count()
             } else {
-                let n = n + self.random.below(24);
+                let n = n + self.cases.random.below(24);
                 self.any_count(n)
             };
             let blocks_as_meant = faults.contains(&10) == (k % DATA_BLOCK != 0);
@@ -403,40 +328,19 @@ impl Comparison {
         }
     }
 
-    /// A run of this many bits: too many or too few bytes if faults has 2; an unused bit set if it has 3.
     fn faulty_run(&mut self, faults: &[u64], bits: usize) -> Vec<u8> {
-        let mut count = bytes_for(bits);
-        while faults.contains(&2) && (count == bytes_for(bits) || count > 4000) {
-            count = match self.random.below(4) {
-                0 => bytes_for(bits).wrapping_sub(1),
-                1 => bytes_for(bits).saturating_add(1),
-                2 => 0,
-                _ => self.random.below(3000),
-            };
-        }
-        let mut bytes = self.random.bytes(count);
-        clear_from(&mut bytes, bits);
-        if faults.contains(&3) {
-            let place = bits.saturating_add(self.random.below(8 - bits % 8));
-            if place / 8 < count {
-                flip(&mut bytes, place);
-            }
-            if faults.contains(&2) && count > 0 {
-                bytes[count - 1] |= 128;
-            }
-        }
-        bytes
+        faulty_run(&mut self.cases.random, faults, bits)
     }
 
     fn faulty_delimiter(&mut self, faults: &[u64]) -> usize {
         if !faults.contains(&4) {
             return self.delimiter();
         }
-        match self.random.below(5) {
+        match self.cases.random.below(5) {
             0 => DELIMITER_MOST + 1,
-            1 => DELIMITER_MOST + 1 + self.random.below(5000),
-            2 => (1 << 16) + self.random.below(1024),
-            3 => (1 << 32) + self.random.below(1024),
+            1 => DELIMITER_MOST + 1 + self.cases.random.below(5000),
+            2 => (1 << 16) + self.cases.random.below(1024),
+            3 => (1 << 32) + self.cases.random.below(1024),
             _ => usize::MAX,
         }
     }
@@ -450,12 +354,12 @@ impl Comparison {
                 let delimiter = self.faulty_delimiter(&faults);
                 let needed = bytes_for(line_bits(k));
                 let room = if faults.contains(&5) {
-                    [needed - 1, 0, self.random.below(needed)][n % 3].min(4000)
+                    [needed - 1, 0, self.cases.random.below(needed)][n % 3].min(4000)
                 } else {
-                    needed + [0, self.random.below(80)][n % 2]
+                    needed + [0, self.cases.random.below(80)][n % 2]
                 };
                 if faults.len() == 2 {
-                    self.reached.add(&before("encode", &faults));
+                    self.cases.reach(&before("encode", &faults));
                 }
                 self.encode(k, &u, delimiter, room, Some(Answer::Refused(faults[0])));
             }
@@ -468,7 +372,7 @@ impl Comparison {
                 let k = self.faulty_count(n, &faults, true, |_| PLACES);
                 let word = self.faulty_run(&faults, PLACES);
                 if faults.len() == 2 {
-                    self.reached.add(&before("word", &faults));
+                    self.cases.reach(&before("word", &faults));
                 }
                 self.check_word(k, &word, Some(Answer::Refused(faults[0])));
             }
@@ -482,7 +386,7 @@ impl Comparison {
                 let line = self.faulty_run(&faults, line_bits(k));
                 let delimiter = self.faulty_delimiter(&faults);
                 if faults.len() == 2 {
-                    self.reached.add(&before("line", &faults));
+                    self.cases.reach(&before("line", &faults));
                 }
                 self.check_line(k, &line, delimiter, Some(Answer::Refused(faults[0])));
             }
@@ -496,7 +400,7 @@ impl Comparison {
         let all: usize = table::TABLE.iter().map(present).sum();
         let of_parity: usize = table::TABLE[57..].iter().map(present).sum();
         if !in_range || all != 275 || of_parity != 53 {
-            self.complain("yardstick, facts of the table");
+            self.cases.complain("yardstick, facts of the table");
         }
         let lessons: [(usize, &[usize]); 5] = [
             (0, &[176, 919, 1655, 2304, 2607, 3019]),
@@ -508,32 +412,17 @@ impl Comparison {
         for (place, expected) in lessons {
             let found: Vec<usize> = (0..CHECKS).filter(|&check| has_one(check, place)).collect();
             if found != expected {
-                self.complain(&format!("yardstick, checks of place {}", place));
+                self.cases.complain(&format!("yardstick, checks of place {}", place));
             }
         }
     }
 }
 
-/// The bytes with every bit from a place on made 0.
-fn clear_from(bytes: &mut [u8], place: usize) {
-    if let Some(byte) = bytes.get_mut(place / 8) {
-        *byte &= (1u8 << (place % 8)) - 1;
-    }
-    for byte in bytes.iter_mut().skip(place / 8 + 1) {
-        *byte = 0;
-    }
-}
-
-/// Every set of an order's refusals but the empty one, each set in that order.
-fn sets_of(order: &[u64]) -> Vec<Vec<u64>> {
-    let chosen = |set: u64| order.iter().enumerate().filter(|(n, _)| set >> n & 1 == 1).map(|(_, &k)| k).collect();
-    (1u64..1 << order.len()).map(chosen).collect()
-}
-
 fn main() {
-    let seed = std::env::args().nth(1).map_or(SEED, |word| word.parse().expect("a seed is a number"));
-    let random = Random(seed);
-    let mut comparison = Comparison { code: Code::new(), random, reached: Reached::new(), cases: 0, wrong: 0 };
+    let coax = [(Coax::code_16200(), archive::COAX_16200), (Coax::code_5940(), archive::COAX_5940)];
+    let mut all = names();
+    all.extend(coax.iter().flat_map(|(code, _)| coax_cases::names(code)));
+    let mut comparison = Comparison { code: Code::new(), cases: Cases::new(all) };
     comparison.yardstick_itself();
     comparison.fine();
     comparison.damaged_words();
@@ -541,16 +430,8 @@ fn main() {
     comparison.refused_encodes();
     comparison.refused_words();
     comparison.refused_lines();
-    let mut missed = 0;
-    for (name, count) in &comparison.reached.counts {
-        println!("{}: {}", name, count);
-        missed += usize::from(*count == 0);
+    for (code, calls) in &coax {
+        coax_cases::run(code, calls, &mut comparison.cases);
     }
-    if missed > 0 {
-        println!("{} never reached", missed);
-    }
-    println!("{} cases, {} wrong", comparison.cases, comparison.wrong);
-    if missed > 0 || comparison.wrong > 0 {
-        std::process::exit(1);
-    }
+    comparison.cases.end();
 }

@@ -2,12 +2,13 @@
 //! proved crates, has its own copy of Table 142-1, and finds the parity by Gaussian elimination.
 //! It is slow, and unproved.
 //!
-//!   bit, flip       bit n of a run of bytes, and the run with it inverted
+//!   bit, flip, put  bit n of a run of bytes, and the run with it inverted, or with another in its place
 //!   bytes_for       the bytes that a run of b bits takes
 //!   line_bits       the bits of the line word of K payload bits
 //!   line_word       the line word of a full word and a delimiter
 //!   refusal_of_count, unused_set    what refusals 1, 10 and 3 ask
 //!   has_one         whether a check's row has a one at a place
+//!   Set, inverse, product   rows of bits: the inverse of a square of them, and their product with a column
 //!   Code            the places of each check, and the inverse of the parity part
 //!   Code::checks    all checks of a full word
 //!   Code::parity_with   the parity whose own checks are those given
@@ -60,7 +61,7 @@ pub fn flip(bytes: &mut [u8], place: usize) {
     bytes[place / 8] ^= 1 << (place % 8);
 }
 
-fn put(bytes: &mut [u8], place: usize, value: u8) {
+pub fn put(bytes: &mut [u8], place: usize, value: u8) {
     if bit(bytes, place) != value {
         flip(bytes, place);
     }
@@ -114,14 +115,16 @@ pub fn unused_set(bytes: &[u8], bits: usize) -> bool {
 }
 
 /// A set of numbers below 3,072.
-type Set = [u64; CHECKS / 64];
+pub type Set = [u64; CHECKS / 64];
+
+pub const EMPTY: Set = [0; CHECKS / 64];
 
 fn holds(set: &[u64], n: usize) -> bool {
     set[n / 64] >> (n % 64) & 1 == 1
 }
 
-/// The inverse of a square matrix over 0 and 1, both as rows of bits, or None if there is none.
-fn inverse(rows: &[Set]) -> Option<Vec<Set>> {
+/// The inverse of a square matrix over 0 and 1, of at most 3,072 rows, both as rows of bits, or None if there is none.
+pub fn inverse(rows: &[Set]) -> Option<Vec<Set>> {
     const HALF: usize = CHECKS / 64;
     let mut both: Vec<[u64; 2 * HALF]> = Vec::new();
     for (n, row) in rows.iter().enumerate() {
@@ -130,8 +133,8 @@ fn inverse(rows: &[Set]) -> Option<Vec<Set>> {
         wide[HALF + n / 64] = 1 << (n % 64);
         both.push(wide);
     }
-    for column in 0..CHECKS {
-        let found = (column..CHECKS).find(|&n| holds(&both[n], column))?;
+    for column in 0..rows.len() {
+        let found = (column..rows.len()).find(|&n| holds(&both[n], column))?;
         both.swap(column, found);
         let pivot = both[column];
         for (n, row) in both.iter_mut().enumerate() {
@@ -150,6 +153,20 @@ fn inverse(rows: &[Set]) -> Option<Vec<Set>> {
     Some(both.iter().map(right).collect())
 }
 
+/// A matrix, as rows of bits, times a column of bits.
+pub fn product(rows: &[Set], column: &[bool]) -> Vec<u8> {
+    let mut set = EMPTY;
+    for (n, _) in column.iter().enumerate().filter(|(_, &value)| value) {
+        set[n / 64] |= 1 << (n % 64);
+    }
+    let mut bytes = vec![0; bytes_for(rows.len())];
+    for (place, row) in rows.iter().enumerate() {
+        let sum = row.iter().zip(&set).fold(0, |sum, (a, b)| sum ^ (a & b));
+        put(&mut bytes, place, (sum.count_ones() % 2) as u8);
+    }
+    bytes
+}
+
 pub struct Code {
     pub places: Vec<Vec<usize>>,
     parity_from: Vec<Set>,
@@ -159,7 +176,7 @@ impl Code {
     pub fn new() -> Code {
         let row = |check| (0..PLACES).filter(|&place| has_one(check, place)).collect();
         let places: Vec<Vec<usize>> = (0..CHECKS).map(row).collect();
-        let mut own = vec![[0; CHECKS / 64]; CHECKS];
+        let mut own = vec![EMPTY; CHECKS];
         for (check, row) in places.iter().enumerate() {
             for place in row.iter().filter(|&&place| place >= PAYLOAD_PLACES) {
                 let column = place - PAYLOAD_PLACES;
@@ -181,16 +198,7 @@ impl Code {
 
     /// The 384 bytes of parity whose own checks are those given.
     pub fn parity_with(&self, checks: &[bool]) -> Vec<u8> {
-        let mut set = [0u64; CHECKS / 64];
-        for (n, _) in checks.iter().enumerate().filter(|(_, &check)| check) {
-            set[n / 64] |= 1 << (n % 64);
-        }
-        let mut parity = vec![0; CHECKS / 8];
-        for (place, row) in self.parity_from.iter().enumerate() {
-            let sum = row.iter().zip(&set).fold(0, |sum, (a, b)| sum ^ (a & b));
-            put(&mut parity, place, (sum.count_ones() % 2) as u8);
-        }
-        parity
+        product(&self.parity_from, checks)
     }
 
     /// The first K bits of u, zeros, then the one parity that makes every check hold.

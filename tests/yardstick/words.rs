@@ -1,15 +1,22 @@
-//! Makes what tests/commands runs the program on, by paper 01 alone:
+//! Makes what tests/commands runs the program on, by paper 01 and W8 alone:
 //!   words FOLDER
-//! Writes payloads, full words, line words, tails and pieces into the folder, whole and damaged, and a file
-//! `cases`, a case to a line, its parts apart by tabs:
+//! Writes payloads, full words, line words, tails and pieces into the folder, whole and damaged, the same for the coax
+//! codes, and a file `cases`, a case to a line, its parts apart by tabs:
 //!   the arguments; the answer, its lines apart by `|`; where a file is written, its name and the one it must equal
+//! The names of files begin with the count of payload bits, those of a coax code with the code's.
 
+#[allow(dead_code)]
+mod coax;
+mod coax_tables;
 #[allow(dead_code)]
 mod paper;
 #[allow(dead_code)]
 mod random;
+#[allow(dead_code)]
+mod stream;
 mod table;
 
+use coax::Coax;
 use paper::*;
 use random::Random;
 use std::fs;
@@ -69,20 +76,25 @@ impl Maker {
         self.case(&format!("line {} {} {}", k, delimiter, name), &answer, "", "");
     }
 
-    /// The payload, cut into pieces of random sizes, one of them of 0 bits.
-    fn stream(&mut self, k: usize, delimiter: usize, payload: &[u8]) {
-        let mut arguments = format!("stream {} {}.out", delimiter, k);
-        let mut answer = String::new();
+    /// The payload, cut into pieces of random sizes, one of them of 0 bits: the arguments, and what is said of them.
+    fn pieces(&mut self, k: usize, payload: &[u8], name: &str) -> (String, String) {
+        let (mut arguments, mut answer) = (String::new(), String::new());
         let (mut held, mut pieces) = (0, 0);
         while held < k {
             let count = if pieces == 1 { 0 } else { (1 + self.random.below(k / 3 + 1)).min(k - held) };
-            let name = format!("{}.piece.{}", k, pieces);
+            let name = format!("{}.piece.{}", name, pieces);
             self.file(&name, &part(payload, held, count));
             held += count;
             pieces += 1;
             arguments.push_str(&format!(" {} {}", count, name));
             answer.push_str(&format!("piece {} held {}|", pieces, held));
         }
+        (arguments, answer)
+    }
+
+    fn stream(&mut self, k: usize, delimiter: usize, payload: &[u8]) {
+        let (pieces, answer) = self.pieces(k, payload, &k.to_string());
+        let arguments = format!("stream {} {}.out{}", delimiter, k, pieces);
         self.case(&arguments, &(answer + "written 322"), &format!("{}.out", k), &format!("{}.tail", k));
     }
 
@@ -131,6 +143,49 @@ impl Maker {
             self.check_line(k, delimiter, &format!("{}.line.{}", k, kind), &damaged);
         }
     }
+
+    fn check_coax(&mut self, code: &Coax, name: &str, word: &[u8]) {
+        self.file(name, word);
+        let answer = told(code.check(code.payload, word));
+        self.case(&format!("coax {} word {} {}", code.places, code.payload, name), &answer, "", "");
+    }
+
+    fn all_of_coax(&mut self, code: &Coax) {
+        let (name, bits) = (code.places, code.payload);
+        let payload = self.random.bytes(bytes_for(bits));
+        let word = code.full_word(&payload);
+        self.file(&format!("{}.payload", name), &payload);
+        self.file(&format!("{}.parity", name), &word[bits / 8..]);
+        self.check_coax(code, &format!("{}.word", name), &word);
+
+        let (out, same) = (format!("{}.out", name), format!("{}.word", name));
+        let written = format!("written {}", word.len());
+        self.case(&format!("coax {} encode {} {}.payload {}", name, bits, name, out), &written, &out, &same);
+
+        let mut open = word.clone();
+        for place in bits..code.places {
+            put(&mut open, place, self.random.below(2) as u8);
+        }
+        self.file(&format!("{}.open", name), &open);
+        self.case(&format!("coax {} complete {} {}.open {}", name, bits, name, out), &written, &out, &same);
+
+        let (pieces, answer) = self.pieces(bits, &payload, &name.to_string());
+        let answer = format!("{}written {}", answer, code.parity_bytes());
+        let same = format!("{}.parity", name);
+        self.case(&format!("coax {} stream {}{}", name, out, pieces), &answer, &out, &same);
+
+        let places = [
+            (0, "first"),
+            (self.random.below(bits), "payload"),
+            (bits + self.random.below(code.parity), "parity"),
+            (code.places - 1, "last"),
+        ];
+        for (place, kind) in places {
+            let mut damaged = word.clone();
+            flip(&mut damaged, place);
+            self.check_coax(code, &format!("{}.word.{}", name, kind), &damaged);
+        }
+    }
 }
 
 fn main() {
@@ -138,6 +193,9 @@ fn main() {
     let mut maker = Maker { code: Code::new(), random: Random(SEED), folder, cases: String::new() };
     for k in COUNTS {
         maker.all_of(k);
+    }
+    for code in [Coax::code_16200(), Coax::code_5940()] {
+        maker.all_of_coax(&code);
     }
     maker.file("cases", maker.cases.as_bytes());
 }
