@@ -1,21 +1,25 @@
 -- Every place that a verdict names, and every count, is below 2^16, and every refusal of a check is 1 to 65,535.
 --
---   word-fits, line-fits    so are those of an answer to each check
+--   word-fits, line-fits, coax-fits    so are those of an answer to each check
 use Prim.Native.Nat.{ℕ, _<_, _^_}
 use mathlib.Core.List.{List}
 use native.Mathlib.Omega.{arith}
-use lib.Dec.{T, ltb, ltb→lt}
+use lib.Dec.{T, ltb, ltb→lt, lit<}
 use Rattle.rules.specs.Bits.{bit}
+use Rattle.rules.specs.Matrix.{Code, checks, payloadPlaces}
 use Rattle.rules.specs.Table.{fibre}
 use Rattle.rules.specs.Formats.{fibreFormat}
 use Rattle.rules.specs.Verdicts.{WordVerdict, LineVerdict}
 use Rattle.rules.specs.Refusals.{Refusal, tells, wordOrder, lineOrder}
 use Rattle.rules.specs.Promises.{refusalIn, judged, WordChecked, LineChecked}
+use Rattle.rules.specs.Coax.{coaxCode, coaxFormat, coaxWordOrder, CoaxChecked}
+use Rattle.rules.specs.declared.CoaxCode.{CoaxCode}
 use Rattle.rules.specs.declared.Cause.the-variants.{Shortened, Check, Parity, Delimiter}
 use Rattle.rules.specs.declared.Verdict.{Verdict}
 use Rattle.rules.specs.declared.Verdict.the-variants.{Accepted, Rejected}
 use Rattle.rules.specs.declared.Judgement.{Judgement}
 use Rattle.rules.specs.declared.Judgement.the-variants.{Judged, Refused}
+use Rattle.rules.proofs.CoaxLaws.{coax-numbers}
 use Rattle.laws.proofs.Told.{numbersPass, told-passes}
 use Rattle.laws.proofs.Judged.{count-range}
 use Rattle.host.specs.Numbers.{VerdictFits, JudgementFits}
@@ -24,12 +28,15 @@ use Rattle.host.specs.Numbers.{VerdictFits, JudgementFits}
 pub told-short : (o : List Refusal) → T (numbersPass (λ n. ltb n (2 ^ 16)) o) → (r : ℕ) → tells o r → r < 2 ^ 16
 told-short o h r x = ltb→lt r (2 ^ 16) (told-passes (λ n. ltb n (2 ^ 16)) tt o h r x)
 
-word-verdict : (K : ℕ) (w : ℕ → ℕ) (v : Verdict) → WordVerdict fibre K w v → VerdictFits v
-word-verdict K w Accepted h = tt
-word-verdict K w (Rejected (Shortened n)) h = omega (arith, h .0 .1)
-word-verdict K w (Rejected (Check n m)) h = (omega (arith, h .1 .0 .0), omega (arith, (count-range fibre K w n m h) .1))
-word-verdict K w (Rejected (Parity n)) h = absurd h
-word-verdict K w (Rejected (Delimiter n)) h = absurd h
+-- of any code with fewer payload places than 2^16, and fewer checks
+word-verdict : (c : Code) → payloadPlaces c < 2 ^ 16 → checks c < 2 ^ 16 → (K : ℕ) (w : ℕ → ℕ) (v : Verdict)
+    → WordVerdict c K w v → VerdictFits v
+word-verdict c few less K w Accepted h = tt
+word-verdict c few less K w (Rejected (Shortened n)) h = omega (arith, h .0 .1)
+word-verdict c few less K w (Rejected (Check n m)) h =
+    (omega (arith, h .1 .0 .0), omega (arith, (count-range c K w n m h) .1))
+word-verdict c few less K w (Rejected (Parity n)) h = absurd h
+word-verdict c few less K w (Rejected (Delimiter n)) h = absurd h
 
 line-verdict : (K : ℕ) (l : List ℕ) (d : ℕ) (v : Verdict) → LineVerdict fibreFormat K l d v → VerdictFits v
 line-verdict K l d Accepted h = tt
@@ -46,10 +53,17 @@ answer-fits P f (Refused n) h s = (h, s)
 
 pub word-fits : (K : ℕ) (w : List ℕ) (j : Judgement) → WordChecked fibreFormat K w j → JudgementFits j
 word-fits K w j x =
-    answer-fits (WordVerdict fibre K (bit w)) (word-verdict K (bit w)) j (x .verdict)
+    answer-fits (WordVerdict fibre K (bit w)) (word-verdict fibre (lit< tt) (lit< tt) K (bit w)) j (x .verdict)
     (told-short (wordOrder fibreFormat K w) tt (refusalIn j) (x .told))
 
 pub line-fits : (K : ℕ) (l : List ℕ) (d : ℕ) (j : Judgement) → LineChecked fibreFormat K l d j → JudgementFits j
 line-fits K l d j x =
     answer-fits (LineVerdict fibreFormat K l d) (line-verdict K l d) j (x .verdict)
     (told-short (lineOrder fibreFormat K l d) tt (refusalIn j) (x .told))
+
+pub coax-fits : (k : CoaxCode) (K : ℕ) (w : List ℕ) (j : Judgement) → CoaxChecked k K w j → JudgementFits j
+coax-fits k K w j x =
+    let n = coax-numbers k in
+    answer-fits (WordVerdict (coaxCode k) K (bit w))
+    (word-verdict (coaxCode k) (omega (arith, n .payload)) (omega (arith, n .size)) K (bit w)) j (x .verdict)
+    (told-short (coaxWordOrder (coaxFormat k) K w) tt (refusalIn j) (x .told))

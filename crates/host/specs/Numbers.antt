@@ -6,9 +6,13 @@
 --   judgementNumber j   the refusal's number, or the verdict's
 --   JudgementFits j     its place and its count are below 2^16, as those of every word are; a refusal is 1 to 65,535
 --   readBack r          the answer of a check that the number r tells, by the parts that the header names
+--   Answered P r        P holds of an answer whose number is r
+--   Judging P r         P holds of a check's answer whose number is r
 --   HostEncoded ..      what birdovesta_encode promises
 --   HostWord ..         what birdovesta_check_word promises
 --   HostLine ..         what birdovesta_check_line promises
+--   HostCoaxEncoded k ..   what birdovesta_encode_16200 and birdovesta_encode_5940 promise, for each code k
+--   HostCoaxChecked k ..   what birdovesta_check_16200 and birdovesta_check_5940 promise
 --
 -- Believe this file beside the paper; nothing here is proved.
 use mathlib.Core.Path.{_≡_}
@@ -18,11 +22,13 @@ use Prim.Native.Nat.{ℕ, _+_, _*_, _/_, _%_, _^_, _<_}
 use lib.Dec.{eqb, ltb}
 use Rattle.rules.specs.Formats.{fibreFormat}
 use Rattle.rules.specs.Promises.{refusalOf, Encoded, WordChecked, LineChecked}
+use Rattle.rules.specs.Coax.{CoaxEncoded, CoaxChecked}
 use Rattle.rules.specs.declared.Answer.{Answer}
 use Rattle.rules.specs.declared.Cause.{Cause}
 use Rattle.rules.specs.declared.Cause.the-variants.{Shortened, Check, Parity, Delimiter}
 use Rattle.rules.specs.declared.Verdict.{Verdict}
 use Rattle.rules.specs.declared.Verdict.the-variants.{Accepted, Rejected}
+use Rattle.rules.specs.declared.CoaxCode.{CoaxCode}
 use Rattle.rules.specs.declared.Judgement.{Judgement}
 use Rattle.rules.specs.declared.Judgement.the-variants.{Judged, Refused}
 
@@ -65,17 +71,27 @@ readBack r =
     cond (eqb r 0) (Judged Accepted)
     (cond (ltb r (2 ^ 16)) (Refused r) (Judged (Rejected (readCause (r / 2 ^ 32) (r / 2 ^ 16 % 2 ^ 16) (r % 2 ^ 16)))))
 
-pub record HostEncoded (K : ℕ) (u : List ℕ) (d : ℕ) (o : List ℕ) (r : ℕ) (o′ : List ℕ) : Type 0 where
+pub record Answered (P : Answer → Type 0) (r : ℕ) : Type 0 where
   pub answer : Answer
-  pub encoded : Encoded fibreFormat K u d o answer o′
+  pub promised : P answer
   pub result : r ≡ refusalOf answer
 
-pub record HostWord (K : ℕ) (w : List ℕ) (r : ℕ) : Type 0 where
+pub record Judging (P : Judgement → Type 0) (r : ℕ) : Type 0 where
   pub judgement : Judgement
-  pub checked : WordChecked fibreFormat K w judgement
+  pub checked : P judgement
   pub result : r ≡ judgementNumber judgement
 
-pub record HostLine (K : ℕ) (l : List ℕ) (d r : ℕ) : Type 0 where
-  pub judgement : Judgement
-  pub checked : LineChecked fibreFormat K l d judgement
-  pub result : r ≡ judgementNumber judgement
+abbrev pub HostEncoded : ℕ → List ℕ → ℕ → List ℕ → ℕ → List ℕ → Type 0
+HostEncoded K u d o r o′ = Answered (λ a. Encoded fibreFormat K u d o a o′) r
+
+abbrev pub HostWord : ℕ → List ℕ → ℕ → Type 0
+HostWord K w = Judging (WordChecked fibreFormat K w)
+
+abbrev pub HostLine : ℕ → List ℕ → ℕ → ℕ → Type 0
+HostLine K l d = Judging (LineChecked fibreFormat K l d)
+
+abbrev pub HostCoaxEncoded : CoaxCode → ℕ → List ℕ → List ℕ → ℕ → List ℕ → Type 0
+HostCoaxEncoded k K u o r o′ = Answered (λ a. CoaxEncoded k K u o a o′) r
+
+abbrev pub HostCoaxChecked : CoaxCode → ℕ → List ℕ → ℕ → Type 0
+HostCoaxChecked k K w = Judging (CoaxChecked k K w)

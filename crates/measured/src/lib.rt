@@ -1,10 +1,14 @@
-// What the benchmark calls beyond the C boundary: complete, a stream's piece and its finish, with numbers and byte
-// slices only. These are no public operations: tests/bench alone calls them, and the archive of `host` does not have
-// them. Each function only calls the operation, and answers 0 or the refusal's number.
+// What the tests call beyond the C boundary: complete, a stream's piece and its finish, with numbers and byte slices
+// only. These are no public operations: the benchmark and the outside tests alone call them, and the archive of `host`
+// does not have them. Each function only calls the operation, and answers 0 or the refusal's number.
 // A stream is lent as the count of bits held and its running checks. These are 384 bytes; else the answer is 65,536, a
 // number that no refusal has, and nothing is written. Where a piece is taken, the caller adds its bits to those held.
+// The coax codes' calls have a module.
+pub mod coax_calls;
+
 ghost use mathlib.Core.Path.{_≡_};
 ghost use lib.ListN.{length};
+ghost use Rattle.rules.specs.Formats.{fibreFormat};
 ghost use Rattle.rules.specs.Streams.{streamBytes};
 ghost use Rattle.measured.specs.Measured.{lent, Complete, Piece, Finish};
 ghost use Rattle.rules.specs.Promises.{refusalOf};
@@ -50,7 +54,7 @@ pub extern "C" fn measured_complete(count: usize, word: &mut [u8]) -> u64
 // Takes a piece.
 #[no_mangle]
 pub extern "C" fn measured_piece(held: usize, checks: &mut [u8], count: usize, bytes: &[u8]) -> u64
-    ensures { λ r. ⌜ Piece held count (now (bytes .entry)) (now (checks .entry)) r (now (checks .exit)) ⌝ }
+    ensures { λ r. ⌜ Piece fibreFormat held count (now (bytes .entry)) (now (checks .entry)) r (now (checks .exit)) ⌝ }
 {
     if checks.len() != rules::STREAM_BYTES {
         return NO_CHECKS;

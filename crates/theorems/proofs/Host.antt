@@ -1,6 +1,8 @@
 -- The C boundary of the fibre code: two outcomes that fit one promise are equal, 0 is told exactly when written or
 -- accepted, a refusal is 1 to 65,535, and a check's answer can be read back from its number.
 --
+--   answered-zero, answered-refused    0 exactly when done; any other number is a refusal, and what it leaves
+--   told                    what the number of a check's answer tells, of any check
 --   host-encode-same, host-word-same, host-line-same    two outcomes of one call are equal
 --   host-encode-zero        0 exactly when written
 --   host-word-zero, host-line-zero          0 exactly when accepted, in the words of demand 2
@@ -13,29 +15,46 @@ use mathlib.Core.Logic.{⊎-elim}
 use mathlib.Core.List.{List}
 use Prim.Native.Nat.{ℕ, _^_, _<_}
 use native.Mathlib.Omega.{arith}
+use lib.Dec.{T, ltb}
 use lib.ListN.{length}
 use borrow.Author.Tests.{ne-eqb, lt-ltb}
 use Rattle.rules.specs.Bits.{Bytes}
 use Rattle.rules.specs.Formats.{fibreFormat}
-use Rattle.rules.specs.Refusals.{tells, encodeOrder}
-use Rattle.rules.specs.Promises.{refusalOf, Encoded, WordChecked, LineChecked}
+use Rattle.rules.specs.Refusals.{Refusal, tells, encodeOrder}
+use Rattle.rules.specs.Promises.{refusalOf, Promise, Encoded, WordChecked, LineChecked}
 use Rattle.rules.specs.declared.Answer.{Answer}
 use Rattle.rules.specs.declared.Answer.the-variants.{Done}
 use Rattle.rules.specs.declared.Verdict.the-variants.{Accepted}
 use Rattle.rules.specs.declared.Judgement.{Judgement}
 use Rattle.rules.specs.declared.Judgement.the-variants.{Judged, Refused}
-use Rattle.laws.proofs.Told.{told-single}
+use Rattle.laws.proofs.Told.{numbersPass, told-single}
 use Rattle.parity.proofs.Single.{fibre-one}
-use Rattle.host.specs.Numbers.{judgementNumber, JudgementFits, readBack, HostEncoded, HostWord, HostLine}
-use Rattle.host.proofs.Fits.{told-short, word-fits, line-fits}
+use Rattle.host.specs.Numbers.{judgementNumber, JudgementFits, readBack, Answered, HostEncoded, HostWord, HostLine}
+use Rattle.host.proofs.Fits.{told-short, word-fits, line-fits, coax-fits}
 use Rattle.host.proofs.Reading.{read-back, apart}
 use Rattle.theorems.specs.Exactly.{Exactly, CheckAnswer}
 use Rattle.theorems.specs.Accepted.{GoodWord, GoodLine}
 use Rattle.theorems.proofs.Same.{encode-same, word-check-same, line-check-same}
-use Rattle.theorems.proofs.Refusing.{none-done, encode-kept}
+use Rattle.theorems.proofs.Refusing.{none-done, kept-part}
 use Rattle.theorems.proofs.FullWords.{word-accepted}
 use Rattle.theorems.proofs.Lines.{line-accepted}
 use Rattle.theorems.proofs.Fibre.{fibre-sized}
+
+-- r is the number of an answer by the order q
+module _ {q : List Refusal} {A B : Type 0} {r : ℕ} (x : Answered (λ a. Promise q a A B) r) where
+  pub answered-zero : Exactly (r ≡ 0) (Promise q Done A B)
+  answered-zero = (
+    λ e.
+        let done = none-done (x .answer) (sym (x .result) ∙ e) (x .promised) in
+        subst (λ (a : Answer). Promise q a A B) done (x .promised),
+    λ w. x .result ∙ told-single q (refusalOf (x .answer)) 0 (x .promised .told) (w .told),
+  )
+
+  pub answered-refused : T (numbersPass (λ n. ltb n (2 ^ 16)) q) → (r ≡ 0 → ⊥) → tells q r × (0 < r) × (r < 2 ^ 16) × B
+  answered-refused short n =
+      let t : tells q r = rw (x .result) (x .promised .told) in
+      let kept = kept-part (x .answer) (λ e. n (x .result ∙ ap refusalOf e)) (x .promised) in
+      (t, omega arith, told-short q short r t, kept)
 
 module _ (K : ℕ) (u : List ℕ) (d : ℕ) (o : List ℕ) where
   pub host-encode-same : (r s : ℕ) (o′ o″ : List ℕ) → Bytes o′ → Bytes o″ → HostEncoded K u d o r o′
@@ -43,32 +62,21 @@ module _ (K : ℕ) (u : List ℕ) (d : ℕ) (o : List ℕ) where
       → (r ≡ s) × (o′ ≡ o″)
   host-encode-same r s o′ o″ b b′ x y =
       let same = encode-same fibreFormat fibre-one fibre-sized K u d o (x .answer) (y .answer) o′ o″ b b′ in
-      let e = same (x .encoded) (y .encoded) in
+      let e = same (x .promised) (y .promised) in
       (x .result ∙ ap refusalOf (e .0) ∙ sym (y .result), e .1)
 
   pub host-encode-zero : (r : ℕ) (o′ : List ℕ) → HostEncoded K u d o r o′
       → Exactly (r ≡ 0) (Encoded fibreFormat K u d o Done o′)
-  host-encode-zero r o′ x = (
-    λ e.
-        let done = none-done (x .answer) (sym (x .result) ∙ e) (x .encoded) in
-        subst (λ (a : Answer). Encoded fibreFormat K u d o a o′) done (x .encoded),
-    λ w.
-        let order = encodeOrder fibreFormat K u d (length o) in
-        x .result ∙ told-single order (refusalOf (x .answer)) 0 (x .encoded .told) (w .told),
-  )
+  host-encode-zero r o′ x = answered-zero x
 
   pub host-encode-refused : (r : ℕ) (o′ : List ℕ) → HostEncoded K u d o r o′ → (r ≡ 0 → ⊥)
       → tells (encodeOrder fibreFormat K u d (length o)) r × (0 < r) × (r < 2 ^ 16) × (o′ ≡ o)
-  host-encode-refused r o′ x n =
-      let t : tells (encodeOrder fibreFormat K u d (length o)) r = rw (x .result) (x .encoded .told) in
-      let not-done : x .answer ≡ Done → ⊥ = λ e. n (x .result ∙ ap refusalOf e) in
-      let kept = encode-kept fibreFormat K u d o (x .answer) o′ not-done (x .encoded) in
-      (t, omega arith, told-short (encodeOrder fibreFormat K u d (length o)) tt r t, kept)
+  host-encode-refused r o′ x = answered-refused x tt
 
 -- P says what a check may answer to an input, and G when it accepts that input; r is the number of an answer j
 module _ (P : Judgement → Type 0) (G : Type 0) (accepted : (j : Judgement) → P j → Exactly (j ≡ Judged Accepted) G)
     (fits : (j : Judgement) → P j → JudgementFits j) where
-  told : (r : ℕ) (j : Judgement) → P j → r ≡ judgementNumber j
+  pub told : (r : ℕ) (j : Judgement) → P j → r ≡ judgementNumber j
       → P (readBack r) × Exactly (r ≡ 0) G × Exactly ((0 < r) × (r < 2 ^ 16)) (P (Refused r))
   told r j p e = (read, zero, short)
     where
@@ -132,7 +140,9 @@ module _ (K : ℕ) (l : List ℕ) (d : ℕ) where
     host-line-refused = line-told .2
 
 answer-fits : (j : Judgement) → CheckAnswer j → JudgementFits j
-answer-fits j a = ⊎-elim (λ x. word-fits (x .0) (x .1) j (x .2)) (λ x. line-fits (x .0) (x .1) (x .2) j (x .3)) a
+answer-fits j a =
+    ⊎-elim (λ x. word-fits (x .0) (x .1) j (x .2))
+    (λ b. ⊎-elim (λ x. line-fits (x .0) (x .1) (x .2) j (x .3)) (λ x. coax-fits (x .0) (x .1) (x .2) j (x .3)) b) a
 
 pub answers-apart : (i j : Judgement) → CheckAnswer i → CheckAnswer j → judgementNumber i ≡ judgementNumber j → i ≡ j
 answers-apart i j a b e = apart i j (answer-fits i a) (answer-fits j b) e

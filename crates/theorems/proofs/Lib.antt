@@ -9,3 +9,4 @@ pub mod Host
 pub mod Coax
 pub mod CoaxWords
 pub mod CoaxStreams
+pub mod CoaxHost

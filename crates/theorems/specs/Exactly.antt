@@ -2,7 +2,8 @@
 --
 --   Exactly A B      A holds where B does, and B where A does
 --   Free o           no refusal of the order o applies
---   CheckAnswer j    j is what the full-word check or the line check of the fibre code answers to some input
+--   CheckAnswer j    j is what the full-word check or the line check of the fibre code, or the check of a coax code,
+--                    answers to some input
 --
 -- Believe this file; nothing here is proved.
 use mathlib.Core.Logic.{_⊎_}
@@ -11,6 +12,8 @@ use Prim.Native.Nat.{ℕ}
 use Rattle.rules.specs.Formats.{fibreFormat}
 use Rattle.rules.specs.Refusals.{Refusal}
 use Rattle.rules.specs.Promises.{WordChecked, LineChecked}
+use Rattle.rules.specs.Coax.{CoaxChecked}
+use Rattle.rules.specs.declared.CoaxCode.{CoaxCode}
 use Rattle.rules.specs.declared.Judgement.{Judgement}
 
 abbrev pub Exactly : Type 0 → Type 0 → Type 0
@@ -23,4 +26,5 @@ Free (t ∷ o) = (t .applies → ⊥) × Free o
 abbrev pub CheckAnswer : Judgement → Type 0
 CheckAnswer j =
     ((K : ℕ) × (w : List ℕ) × WordChecked fibreFormat K w j)
-    ⊎ ((K : ℕ) × (l : List ℕ) × (d : ℕ) × LineChecked fibreFormat K l d j)
+    ⊎ (((K : ℕ) × (l : List ℕ) × (d : ℕ) × LineChecked fibreFormat K l d j)
+    ⊎ ((k : CoaxCode) × (K : ℕ) × (w : List ℕ) × CoaxChecked k K w j))

@@ -9,7 +9,7 @@ use Rattle.measured.proofs.measured_piece.Statement.{statement}
 use Rattle.measured.proofs.measured_piece.Tie as tie
 
 returns : tie.Need-returns
-returns c = inl (c .if1 .taken, refl, refl)
+returns c = inl (c .if1 .taken, refl, refl, tt)
 
 returns-2 : tie.Need-returns-2
 returns-2 c =
