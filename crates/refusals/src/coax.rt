@@ -22,11 +22,11 @@ pub fn encode(code: CoaxCode, count: usize, payload: &[u8], room: usize) -> usiz
 pub fn word(code: CoaxCode, count: usize, word: &[u8]) -> usize
     ensures { λ r. ⌜ tells (coaxWordOrder (coaxFormat code) count (now (word .entry))) r ⌝ }
 {
-    let exact = coax::payload_places(code);
+    let payload = coax::payload_places(code);
     let all = coax::places(code);
     super::first_told(
         &[
-            super::outside(count, exact, exact),
+            super::outside(count, payload, payload),
             super::differs(word.len(), bits::needed(all), 2),
             super::unused_set(word, all),
         ],
