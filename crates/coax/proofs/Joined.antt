@@ -1,8 +1,6 @@
 -- Bytes that are written one after another: a payload that fills whole bytes, then its parity. Over either code.
 --
 --   copied-length   a copy over the first bytes keeps the length
---   parity-filled   a parity of bits is that of a payload of them that fills the payload places
---   written-as      what is written is any equal bits
 --   joined-written  the bytes u and then the bytes p of b bits, written over the first bytes of o
 --   line-joined     so the line word of a payload that fills the payload places
 --   tail-joined     and the tail, which is the parity alone
@@ -13,36 +11,16 @@ use native.Mathlib.Omega.{arith}
 use lib.ListN.{length, take, drop, length-append, length-drop}
 use lib.Seq.{length-take-le, drop-at, drop-drop}
 use Rattle.rules.specs.Bits.{bit, need, zeros, run, Packed, Written}
-use Rattle.rules.specs.Matrix.{Code, payloadPlaces}
 use Rattle.rules.specs.Formats.{Format}
-use Rattle.rules.specs.Words.{padded, fullWord, Parity, tail, tailBits, lineWord, lineBits}
-use Rattle.rules.proofs.Checks.{check-same}
+use Rattle.rules.specs.Words.{tail, tailBits, lineWord, lineBits}
 use Rattle.laws.proofs.Bits.{bit-front, mid, length-mid, bit-mid, bit-below}
-use Rattle.laws.proofs.Runs.{run-low, run-high, run-each, run-none, run-same}
+use Rattle.laws.proofs.Runs.{run-low, run-high, run-each, run-none}
+use Rattle.laws.proofs.Written.{written-as}
 use Rattle.laws.proofs.Tails.{tail-low}
 use Rattle.laws.proofs.Parities.{packed-clear}
 
 pub copied-length : (u o : List ℕ) {v : List ℕ} → v ≡ u → length u ≤ length o → length (v ++ drop (length u) o) ≡ length o
 copied-length u o same h = rw same (simp (length-append, length-drop) (omega arith))
-
-pub parity-filled : (c : Code) (K : ℕ) {x : ℕ → ℕ} {p : List ℕ} → payloadPlaces c ≤ K → Parity c x p
-    → Parity c (padded K x) p
-parity-filled c K {x} {p} most h = record {
-  packed = h .packed;
-  all-hold = λ n l.
-      check-same c n (fullWord c (padded K x) p) (fullWord c x p)
-      (λ m i. run-same (payloadPlaces c) (padded K x) (bit p) x (bit p) (λ j k. run-low K x zeros j (omega arith))
-      (λ j. refl) m)
-      ∙ h .all-hold n l;
-}
-
-pub written-as : {b : ℕ} {x y : ℕ → ℕ} {s t : List ℕ} → ((n : ℕ) → n < b → x n ≡ y n) → Written b x s t
-    → Written b y s t
-written-as {b} {x} {y} e w = record {
-  length-same = w .length-same;
-  bits = λ n h. w .bits n h ∙ run-same b x zeros y zeros e (λ m. refl) n;
-  after = w .after;
-}
 
 module _ (u p o : List ℕ) (a b : ℕ) (front : length u ≡ a) (packed : Packed b p) (fits : a + need b ≤ length o) where
   -- o with its first bytes replaced by u, and then by p after them

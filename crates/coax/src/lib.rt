@@ -1,7 +1,7 @@
 // The two coax codes of W8 of paper 02: encode a payload, complete a word in place, check a word; take a piece of a
 // stream, and finish it. Each operation is told which of the codes it serves.
 ghost use mathlib.Core.Path.{_≡_};
-ghost use Prim.Native.Nat.{ℕ, _+_, _*_, _≤_, _<_};
+ghost use Prim.Native.Nat.{ℕ, _+_, _*_, _≤_};
 ghost use lib.ListN.{length};
 ghost use Rattle.rules.specs.Bits.{bit, need, zeros, run, placed, Adds};
 ghost use Rattle.rules.specs.Matrix.{places, checks, payloadPlaces, check};

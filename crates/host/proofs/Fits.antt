@@ -1,6 +1,6 @@
 -- Every place that a verdict names, and every count, is below 2^16, and every refusal of a check is 1 to 65,535.
 --
---   word-fits, line-fits, coax-fits    so are those of an answer to each check
+--   word-fits, line-fits, coax-check-fits    so are those of an answer to each check
 use Prim.Native.Nat.{ℕ, _<_, _^_}
 use mathlib.Core.List.{List}
 use native.Mathlib.Omega.{arith}
@@ -61,8 +61,8 @@ line-fits K l d j x =
     answer-fits (LineVerdict fibreFormat K l d) (line-verdict K l d) j (x .verdict)
     (told-short (lineOrder fibreFormat K l d) tt (refusalIn j) (x .told))
 
-pub coax-fits : (k : CoaxCode) (K : ℕ) (w : List ℕ) (j : Judgement) → CoaxChecked k K w j → JudgementFits j
-coax-fits k K w j x =
+pub coax-check-fits : (k : CoaxCode) (K : ℕ) (w : List ℕ) (j : Judgement) → CoaxChecked k K w j → JudgementFits j
+coax-check-fits k K w j x =
     let n = coax-numbers k in
     answer-fits (WordVerdict (coaxCode k) K (bit w))
     (word-verdict (coaxCode k) (omega (arith, n .payload)) (omega (arith, n .size)) K (bit w)) j (x .verdict)

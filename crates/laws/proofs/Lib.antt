@@ -1,5 +1,6 @@
 pub mod Bits
 pub mod Runs
+pub mod Written
 pub mod Numbers
 pub mod Adds
 pub mod Around

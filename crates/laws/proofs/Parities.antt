@@ -16,6 +16,7 @@
 --   moved-past          after them all is 0
 --   moved-packed        and they are just the bytes of these bits, where they are as many as it takes
 --   parity-as           a parity of K bits is one of any equal K bits
+--   parity-filled       and a parity of bits is one of K of them, where these fill the payload places
 --   parity-one          the bytes of a parity with given own checks are single
 --   payload-parity      a parity whose own checks are the payload's makes every check hold
 --   payload-own         a parity that makes every check hold has the payload's checks as its own
@@ -161,6 +162,16 @@ module _ (c : Code) where
         (λ m l. run-same (payloadPlaces c) (padded K y) (bit p) (padded K x) (bit p)
         (λ i j. run-same K y zeros x zeros (λ i j. sym (e i j)) (λ i. refl) i) (λ i. refl) m)
         ∙ h .all-hold n k;
+  }
+
+  pub parity-filled : (K : ℕ) {x : ℕ → ℕ} {p : List ℕ} → payloadPlaces c ≤ K → Parity c x p → Parity c (padded K x) p
+  parity-filled K {x} {p} most h = record {
+    packed = h .packed;
+    all-hold = λ n l.
+        check-same c n (fullWord c (padded K x) p) (fullWord c x p)
+        (λ m i. run-same (payloadPlaces c) (padded K x) (bit p) x (bit p) (λ j k. run-low K x zeros j (omega arith))
+        (λ j. refl) m)
+        ∙ h .all-hold n l;
   }
 
   -- the payload's checks, as bytes

@@ -11,7 +11,7 @@
 --                  checks
 use mathlib.Core.Path.{_≡_, refl}
 use mathlib.Core.Bool.{Bool}
-use Prim.Native.Nat.{ℕ, _+_, _*_, _/_, _%_, _≤_, _<_}
+use Prim.Native.Nat.{_+_, _*_, _/_, _≤_, _<_}
 use lib.Dec.{T, lit<, lit≤}
 use lib.ListN.{length}
 use Rattle.rules.specs.Matrix.{places, checks, payloadPlaces}

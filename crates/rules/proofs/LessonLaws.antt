@@ -93,10 +93,10 @@ lessons-right = (
 )
 
 -- the coax codes' lessons on places, and on the word with place 0 alone
-coax-places : (k : CoaxCode) → AllRight (coaxCode k) (take 3 (coaxLessons k))
+coax-place-lessons : (k : CoaxCode) → AllRight (coaxCode k) (take 3 (coaxLessons k))
 unfolding checksOf one entry longLines shortLines
-coax-places Long = (refl, (refl, (refl, tt)))
-coax-places Short = (refl, (refl, (refl, tt)))
+coax-place-lessons Long = (refl, (refl, (refl, tt)))
+coax-place-lessons Short = (refl, (refl, (refl, tt)))
 
 long-zero : WordVerdict (coaxCode Long) 14400 (only 0) (Rejected (Check 267 4))
 unfolding total one entry longLines
@@ -108,10 +108,10 @@ unfolding total one entry shortLines
 short-zero =
     first-check (coaxCode Short) 5040 0 38 5 (lit< tt) (λ m a b e. omega arith) (lit< tt) refl tt refl
 
-coax-words : (k : CoaxCode) → AllRight (coaxCode k) (drop 3 (coaxLessons k))
-coax-words Long = (zero-word (coaxCode Long) 14400, (long-zero, tt))
-coax-words Short = (zero-word (coaxCode Short) 5040, (short-zero, tt))
+coax-word-lessons : (k : CoaxCode) → AllRight (coaxCode k) (drop 3 (coaxLessons k))
+coax-word-lessons Long = (zero-word (coaxCode Long) 14400, (long-zero, tt))
+coax-word-lessons Short = (zero-word (coaxCode Short) 5040, (short-zero, tt))
 
 pub coax-right : (k : CoaxCode) → AllRight (coaxCode k) (coaxLessons k)
-coax-right Long = let p = coax-places Long in (p .0, (p .1 .0, (p .1 .1 .0, coax-words Long)))
-coax-right Short = let p = coax-places Short in (p .0, (p .1 .0, (p .1 .1 .0, coax-words Short)))
+coax-right Long = let p = coax-place-lessons Long in (p .0, (p .1 .0, (p .1 .1 .0, coax-word-lessons Long)))
+coax-right Short = let p = coax-place-lessons Short in (p .0, (p .1 .0, (p .1 .1 .0, coax-word-lessons Short)))

@@ -5,13 +5,12 @@
 --   lines-ready      so a copy of the code's table may be handed on
 --   lines-added      and what it adds is what the code's checks are
 --   piece-first, piece-last, piece-within, piece-less   the blocks that the places from h on and below e touch
-use mathlib.Core.Path.{_≡_, sym, ap, subst, _∙_}
+use mathlib.Core.Path.{_≡_, sym, ap, subst}
 use mathlib.Core.List.{List}
-use Prim.Native.Nat.{ℕ, _+_, _-_, _*_, _/_, _%_, _^_, _≤_, _<_}
+use Prim.Native.Nat.{ℕ, _+_, _-_, _*_, _/_, _^_, _≤_, _<_}
 use native.Mathlib.Decide.{decLt}
 use native.Mathlib.Nat.{mul-suc, mul-le-mul-left, div-add-mod, mod-lt}
 use native.Mathlib.Omega.{arith}
-use lib.Dec.{lit<}
 use lib.IntN.{ℤ}
 use lib.ListN.{length}
 use Rattle.rules.specs.Bits.{need, Adds}

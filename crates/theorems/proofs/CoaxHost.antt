@@ -19,7 +19,7 @@ use Rattle.rules.specs.declared.CoaxCode.{CoaxCode}
 use Rattle.rules.specs.declared.Judgement.the-variants.{Refused}
 use Rattle.parity.proofs.CoaxSolved.{coax-one}
 use Rattle.host.specs.Numbers.{judgementNumber, readBack, HostCoaxEncoded, HostCoaxChecked}
-use Rattle.host.proofs.Fits.{coax-fits}
+use Rattle.host.proofs.Fits.{coax-check-fits}
 use Rattle.theorems.specs.Exactly.{Exactly}
 use Rattle.theorems.specs.Accepted.{GoodCoax}
 use Rattle.theorems.proofs.Coax.{coax-encode-same, coax-check-same}
@@ -51,7 +51,7 @@ module _ (k : CoaxCode) (K : ℕ) (w : List ℕ) where
     check-told : CoaxChecked k K w (readBack r) × Exactly (r ≡ 0) (GoodCoax k K w)
         × Exactly ((0 < r) × (r < 2 ^ 16)) (CoaxChecked k K w (Refused r))
     check-told =
-        told (CoaxChecked k K w) _ (coax-accepted k K w) (coax-fits k K w) r (x .judgement) (x .checked) (x .result)
+        told (CoaxChecked k K w) _ (coax-accepted k K w) (coax-check-fits k K w) r (x .judgement) (x .checked) (x .result)
 
     pub host-coax-check-read : CoaxChecked k K w (readBack r)
     host-coax-check-read = check-told .0

@@ -37,7 +37,8 @@ use Rattle.rules.proofs.CoaxLaws.{coax-numbers}
 use Rattle.rules.proofs.Checks.{check-same}
 use Rattle.laws.proofs.Bits.{bit-past}
 use Rattle.laws.proofs.Runs.{run-low, run-each, run-none, run-same}
-use Rattle.laws.proofs.Parities.{OneParity, packed-clear}
+use Rattle.laws.proofs.Written.{written-as}
+use Rattle.laws.proofs.Parities.{OneParity, packed-clear, parity-filled}
 use Rattle.theorems.specs.Exactly.{Exactly}
 use Rattle.theorems.specs.Punctured.{completed}
 use Rattle.theorems.specs.Accepted.{GoodLine, GoodCoax}
@@ -169,24 +170,12 @@ module _ (k : CoaxCode) where
             rw (line-bits count) at (coax-line-good K _ (encoded-good f one (coax-sized k) K u 0 o o′ encoded))
 
     pub coax-encode-exact : (q : List ℕ) → Parity c (bit u) q → Written (places c) (fullWord c (bit u) q) o o′
-    coax-encode-exact q h = record {
-      length-same = w .length-same;
-      bits = λ n i. w .bits n i ∙ run-same (places c) _ zeros _ zeros (λ m j. word m) (λ m. refl) n;
-      after = w .after;
-    }
+    coax-encode-exact q h = written-as (λ n i. word n) w
       where
-        padded-parity : Parity c (padded K (bit u)) q
-        padded-parity = record {
-          packed = h .packed;
-          all-hold = λ n i.
-              check-same c n (fullWord c (padded K (bit u)) q) (fullWord c (bit u) q)
-              (λ m j. run-same (payloadPlaces c) (padded K (bit u)) (bit q) (bit u) (bit q)
-              (λ a b. run-low K (bit u) zeros a (omega (arith, count .least))) (λ a. refl) m)
-              ∙ h .all-hold n i;
-        }
-
         w : Written (places c) (lineWord f K (bit u) q 0) o o′
-        w = rw (line-bits count) at (encode-exact f one (coax-sized k) K u 0 o o′ encoded q padded-parity)
+        w =
+            rw (line-bits count) at
+            (encode-exact f one (coax-sized k) K u 0 o o′ encoded q (parity-filled c K (count .least) h))
 
         all-sent : (n : ℕ) → tail f q 0 n ≡ bit q n
         all-sent n =

@@ -30,7 +30,7 @@ use Rattle.rules.specs.declared.Judgement.the-variants.{Judged, Refused}
 use Rattle.laws.proofs.Told.{numbersPass, told-single}
 use Rattle.parity.proofs.Single.{fibre-one}
 use Rattle.host.specs.Numbers.{judgementNumber, JudgementFits, readBack, Answered, HostEncoded, HostWord, HostLine}
-use Rattle.host.proofs.Fits.{told-short, word-fits, line-fits, coax-fits}
+use Rattle.host.proofs.Fits.{told-short, word-fits, line-fits, coax-check-fits}
 use Rattle.host.proofs.Reading.{read-back, apart}
 use Rattle.theorems.specs.Exactly.{Exactly, CheckAnswer}
 use Rattle.theorems.specs.Accepted.{GoodWord, GoodLine}
@@ -142,7 +142,7 @@ module _ (K : ℕ) (l : List ℕ) (d : ℕ) where
 answer-fits : (j : Judgement) → CheckAnswer j → JudgementFits j
 answer-fits j a =
     ⊎-elim (λ x. word-fits (x .0) (x .1) j (x .2))
-    (λ b. ⊎-elim (λ x. line-fits (x .0) (x .1) (x .2) j (x .3)) (λ x. coax-fits (x .0) (x .1) (x .2) j (x .3)) b) a
+    (λ b. ⊎-elim (λ x. line-fits (x .0) (x .1) (x .2) j (x .3)) (λ x. coax-check-fits (x .0) (x .1) (x .2) j (x .3)) b) a
 
 pub answers-apart : (i j : Judgement) → CheckAnswer i → CheckAnswer j → judgementNumber i ≡ judgementNumber j → i ≡ j
 answers-apart i j a b e = apart i j (answer-fits i a) (answer-fits j b) e

@@ -29,7 +29,8 @@ use Rattle.rules.specs.declared.Judgement.{Judgement}
 use Rattle.rules.specs.declared.Judgement.the-variants.{Judged}
 use Rattle.rules.proofs.Checks.{check-same}
 use Rattle.laws.proofs.Bits.{bit<, bit-take}
-use Rattle.laws.proofs.Runs.{run-low, run-each, run-same, run-below}
+use Rattle.laws.proofs.Runs.{run-low, run-each, run-below}
+use Rattle.laws.proofs.Written.{written-as}
 use Rattle.laws.proofs.Told.{not-different}
 use Rattle.laws.proofs.Tails.{tail-low, tail-high, line-high}
 use Rattle.laws.proofs.Parities.{parity-as, OneParity, full-same, packed-same, packed-run, packed-bits}
@@ -178,16 +179,7 @@ module _ (f : Format) (one : OneParity (f .code)) (sized : Sized f) where
 
     pub encode-exact : (q : List ℕ) → Parity (f .code) (padded K (bit u)) q
         → Written (lineBits f K) (lineWord f K (bit u) q d) o o′
-    encode-exact q h =
-        let w = e .effect .2 in
-        record {
-          length-same = w .length-same;
-          bits = λ n i.
-              w .bits n i
-              ∙ run-same (lineBits f K) _ zeros _ zeros (λ m j. line-one f one sized K u p q d (e .effect .1) h m)
-              (λ m. refl) n;
-          after = w .after;
-        }
+    encode-exact q h = written-as (λ n i. line-one f one sized K u p q d (e .effect .1) h n) (e .effect .2)
 
     -- a line word k with the same payload, that the line check accepts, is the one that encode wrote
     module _ (k : List ℕ) (bytes : Bytes k) (bytes′ : Bytes o′) (same : (n : ℕ) → n < K → bit k n ≡ bit u n)

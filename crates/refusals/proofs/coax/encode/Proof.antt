@@ -2,9 +2,7 @@
 use borrow.Author.Needs.{needs}
 use mathlib.Core.Path.{_≡_}
 use mathlib.Core.Logic.{inl, inr}
-use Prim.Native.Nat.{_+_}
 use native.Mathlib.Omega.{arith}
-use Rattle.rules.specs.Bits.{need}
 use Rattle.rules.specs.Matrix.{places}
 use Rattle.rules.specs.Coax.{coaxCode, coaxFormat, coaxEncodeOrder}
 use Rattle.rules.specs.Words.{lineBits}

@@ -1,7 +1,6 @@
 -- `running::coax::add_piece` meets its contract: the blocks that the piece touches hold all of it, in a word that is 0
 -- elsewhere.
 use borrow.Author.Needs.{needs}
-use mathlib.Core.Path.{_≡_}
 use Prim.Native.Nat.{_+_, _-_, _*_, _≤_}
 use native.Mathlib.Nat.{zero-add, mul-le-mul-left}
 use native.Mathlib.Omega.{arith}
