@@ -47,28 +47,13 @@ coax-places = (refl, refl, refl, refl, refl, refl)
 pub record Numbers (k : CoaxCode) : Type 0 where
   pub some : 0 < coaxSize k
   pub size : coaxSize k ≤ 360
-  pub columns : coaxColumns k ≤ 45
   pub parts : places (coaxCode k) ≡ payloadPlaces (coaxCode k) + checks (coaxCode k)
   pub payload : payloadPlaces (coaxCode k) ≤ 14400
   pub whole : 8 * (payloadPlaces (coaxCode k) / 8) ≡ payloadPlaces (coaxCode k)
   pub rows : 5 ≤ coaxColumns k
 
 pub coax-numbers : (k : CoaxCode) → Numbers k
-coax-numbers Long = record {
-  some = lit< tt;
-  size = lit≤ tt;
-  columns = lit≤ tt;
-  parts = refl;
-  payload = lit≤ tt;
-  whole = refl;
-  rows = lit≤ tt;
-}
-coax-numbers Short = record {
-  some = lit< tt;
-  size = lit≤ tt;
-  columns = lit≤ tt;
-  parts = refl;
-  payload = lit≤ tt;
-  whole = refl;
-  rows = lit≤ tt;
-}
+coax-numbers Long =
+    record { some = lit< tt; size = lit≤ tt; parts = refl; payload = lit≤ tt; whole = refl; rows = lit≤ tt }
+coax-numbers Short =
+    record { some = lit< tt; size = lit≤ tt; parts = refl; payload = lit≤ tt; whole = refl; rows = lit≤ tt }

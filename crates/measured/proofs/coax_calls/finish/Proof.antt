@@ -1,9 +1,9 @@
 -- `measured::coax_calls::finish` meets its contract.
 use borrow.Author.Needs.{needs}
-use mathlib.Core.Path.{refl, subst}
-use mathlib.Core.Logic.{inl, inr}
+use mathlib.Core.Path.{refl}
+use mathlib.Core.Logic.{inl}
 use Rattle.rules.specs.Coax.{CoaxFinished}
-use Rattle.rules.specs.declared.Stream.{Stream}
+use Rattle.measured.proofs.Lent.{lent-handed}
 use Rattle.measured.proofs.coax_calls.finish.Statement.{statement}
 use Rattle.measured.proofs.coax_calls.finish.Tie as tie
 
@@ -12,23 +12,13 @@ returns c = inl (c .if1 .taken, refl, refl, refl)
 
 returns-2 : tie.Need-returns-2
 returns-2 c =
-    let back = c .before .before .hand-back in
     let after = c .before .before .before .before .before .before in
-    let lent = after .before .before .stream-of in
+    let did = after .finish in
+    let made = after .before .before .stream-of in
     let test = after .before .before .before .before in
     let a = test .before .before .before .args in
-    let f = after .finish in
-    let o = f .last .1 .1 .0 in
-    let P : Stream → Type 0 = λ (t : Stream). CoaxFinished (a .code) t (a .tail .now) (f .result) o in
-    inr (
-      test .if1 .left,
-      record {
-        outcome = f .result;
-        promised = subst P (lent .ensures) (f .ensures);
-        result = back .ensures .0;
-        checks = back .ensures .1;
-      },
-    )
+    lent-handed (λ t o. CoaxFinished (a .code) t (a .tail .now) o (did .last .1 .1 .0)) (a .held) _ (a .checks .now) _ _ (made .result) (did .result)
+    (test .if1 .left) (made .ensures) (did .ensures) (c .before .before .hand-back .ensures)
 
 pub finish-spec : {M : Type 1} → statement M
 finish-spec =
