@@ -1,121 +1,24 @@
 // The lesson sheet of paper 01, with what W3 and W4 of paper 02 change, run through the libraries.
 // What a lesson expects is the sheet's.
-ghost use Prim.Native.Nat.{_≤_};
-ghost use lib.ListN.{length};
+use crate::expected::is_accepted;
+use crate::expected::is_check;
+use crate::expected::is_done;
+use crate::expected::is_judged_refused;
+use crate::expected::is_refused;
+use crate::expected::is_shortened;
+use crate::expected::lesson;
+use crate::expected::set;
+use crate::places;
 use crate::tally;
 use crate::tally::Tally;
-use console::say;
+use codes::Code;
 use rules::Answer;
-use rules::Cause;
 use rules::Judgement;
 use rules::Stream;
-use rules::Verdict;
 use rules::fibre;
 
-fn is_done(answer: Answer) -> bool {
-    match answer {
-        Answer::Done => true,
-        Answer::Refused(_) => false,
-    }
-}
-
-fn is_refused(answer: Answer, number: usize) -> bool {
-    match answer {
-        Answer::Done => false,
-        Answer::Refused(told) => told == number,
-    }
-}
-
-fn is_accepted(judgement: Judgement) -> bool {
-    let Judgement::Judged(verdict) = judgement else {
-        return false;
-    };
-    match verdict {
-        Verdict::Accepted => true,
-        Verdict::Rejected(_) => false,
-    }
-}
-
-fn is_shortened(judgement: Judgement, place: usize) -> bool {
-    let Judgement::Judged(verdict) = judgement else {
-        return false;
-    };
-    let Verdict::Rejected(cause) = verdict else {
-        return false;
-    };
-    let Cause::Shortened(told) = cause else {
-        return false;
-    };
-    told == place
-}
-
-fn is_check(judgement: Judgement, lowest: usize, rows: usize) -> bool {
-    let Judgement::Judged(verdict) = judgement else {
-        return false;
-    };
-    let Verdict::Rejected(cause) = verdict else {
-        return false;
-    };
-    let Cause::Check { row, count } = cause else {
-        return false;
-    };
-    row == lowest && count == rows
-}
-
-fn is_judged_refused(judgement: Judgement, number: usize) -> bool {
-    match judgement {
-        Judgement::Judged(_) => false,
-        Judgement::Refused(told) => told == number,
-    }
-}
-
-// Sets the bit at a place that the bytes have.
-fn set(bytes: &mut [u8], place: usize) {
-    if place / 8 < bytes.len() {
-        bits::add_run(bytes, place, b"\x01", 0, 1);
-    }
-}
-
-fn set_all(bytes: &mut [u8], places: &[usize]) {
-    for i in 0..places.len() {
-        set(bytes, places[i]);
-    }
-}
-
-// A payload place is in these checks, and in no other: they are the running checks of a payload with that bit alone.
 fn payload_place(place: usize, rows: &[usize]) -> bool {
-    let mut payload = [0u8; 1799];
-    set(&mut payload, place);
-    let outcome = stream::piece(stream::begin(), fibre::PAYLOAD_MOST, &payload);
-    let answer = outcome.answer;
-    if !is_done(answer) {
-        return false;
-    }
-    let later = outcome.stream;
-    let checks = later.checks;
-    let mut expected = [0u8; rules::STREAM_BYTES];
-    set_all(&mut expected, rows);
-    check::same(&checks, &expected)
-}
-
-// A sent parity place is in these checks, and in no other: of running checks with these rows alone, it is the sent
-// parity.
-fn parity_place(place: usize, rows: &[usize]) -> bool {
-    let mut checks = [0u8; rules::STREAM_BYTES];
-    set_all(&mut checks, rows);
-    let held = Stream {
-        held: 257,
-        checks: checks,
-    };
-    let mut tail = [255u8; fibre::TAIL_BYTES];
-    let outcome = stream::finish(held, 0, &mut tail);
-    let answer = outcome.answer;
-    if !is_done(answer) {
-        return false;
-    }
-    let mut expected = [0u8; fibre::TAIL_BYTES];
-    set(&mut expected, place);
-    check::same(&tail, &expected)
+    places::payload_place(Code::Fibre, fibre::PAYLOAD_MOST, place, rows)
 }
 
 // What the check of a full word answers where it has only the bit at a place.
@@ -210,12 +113,6 @@ fn one_held() -> Stream {
     later
 }
 
-fn lesson(tally: Tally, is_right: bool, name: &[u8]) -> Tally
-    requires { ⌜ length (now name) ≤ 50 ⌝ }
-{
-    tally::count(tally, is_right, say::lesson(is_right, name))
-}
-
 // The places.
 fn places(tally: Tally) -> Tally {
     let first = [176usize, 919, 1655, 2304, 2607, 3019];
@@ -227,7 +124,11 @@ fn places(tally: Tally) -> Tally {
     let b = lesson(a, payload_place(255, &last_of_block), b"place 255");
     let c = lesson(b, payload_place(256, &next_block), b"place 256");
     let d = lesson(c, payload_place(14391, &last), b"place 14391");
-    lesson(d, parity_place(0, &parity), b"place 14592")
+    lesson(
+        d,
+        places::parity_place(Code::Fibre, 257, 0, &parity),
+        b"place 14592",
+    )
 }
 
 // Full words.
