@@ -1,8 +1,12 @@
 // The program: each command hands files of bytes to the proved libraries and says what they answer.
+use codes::Code;
+use codes::Named;
 use console::say;
 use console::say::TROUBLE;
+use lessons::coax_sheet;
 use lessons::sheet;
 use lessons::tally;
+use rules::CoaxCode;
 
 // lessons [VECTORS]
 fn lessons() -> u8 {
@@ -18,8 +22,43 @@ fn lessons() -> u8 {
     if size == 65536 {
         return say::fault(b"VECTORS is too long; cut it in two");
     }
-    let tally = sheet::run();
+    let tally = coax_sheet::run(sheet::run());
     tally::total(vectors::run(&text[..size], tally))
+}
+
+fn unknown() -> u8 {
+    say::fault(b"no such command; type birdovesta help")
+}
+
+fn run_coax(code: CoaxCode, command: &[u8]) -> u8 {
+    if check::same(command, b"encode") {
+        return commands::encode_coax(code);
+    }
+    if check::same(command, b"complete") {
+        return commands::complete(Code::Coax(code), 4);
+    }
+    if check::same(command, b"word") {
+        return commands::check_word(Code::Coax(code), 4);
+    }
+    if check::same(command, b"stream") {
+        return pieces::feed_coax(code);
+    }
+    unknown()
+}
+
+// coax CODE COMMAND ARGUMENT..
+fn coax() -> u8 {
+    if os::arg_count() < 4 {
+        return say::fault(b"coax needs CODE and a command");
+    }
+    let mut name = [0u8; 16];
+    let n = os::arg(2, &mut name);
+    let Named::Is(code) = codes::find(&name[..n]) else {
+        return say::fault(b"CODE is 16200 or 5940");
+    };
+    let mut command = [0u8; 16];
+    let m = os::arg(3, &mut command);
+    run_coax(code, &command[..m])
 }
 
 fn run(command: &[u8]) -> u8 {
@@ -30,16 +69,19 @@ fn run(command: &[u8]) -> u8 {
         return commands::encode();
     }
     if check::same(command, b"complete") {
-        return commands::complete();
+        return commands::complete(Code::Fibre, 2);
     }
     if check::same(command, b"word") {
-        return commands::check_word();
+        return commands::check_word(Code::Fibre, 2);
     }
     if check::same(command, b"line") {
         return commands::check_line();
     }
     if check::same(command, b"stream") {
-        return pieces::feed_and_finish();
+        return pieces::feed_fibre();
+    }
+    if check::same(command, b"coax") {
+        return coax();
     }
     if check::same(command, b"help")
         || check::same(command, b"--help")
@@ -50,7 +92,7 @@ fn run(command: &[u8]) -> u8 {
     if check::same(command, b"--version") {
         return help::version();
     }
-    say::fault(b"no such command; type birdovesta help")
+    unknown()
 }
 
 fn main() {

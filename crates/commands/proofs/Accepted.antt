@@ -4,19 +4,24 @@
 --   word-status    of a full word: the exit status
 --   line-said      of a line word: the line
 --   line-status    of a line word: the exit status
+--   coax-said      of a coax word: the line
+--   coax-status    of a coax word: the exit status
 use mathlib.Core.Path.{_≡_, refl, sym, ap, subst, _∙_}
 use mathlib.Core.List.{List}
 use Prim.Native.Nat.{ℕ}
 use Rattle.rules.specs.Formats.{fibreFormat}
 use Rattle.rules.specs.Promises.{WordChecked, LineChecked}
+use Rattle.rules.specs.Coax.{CoaxChecked}
+use Rattle.rules.specs.declared.CoaxCode.{CoaxCode}
 use Rattle.rules.specs.declared.Verdict.the-variants.{Accepted}
 use Rattle.rules.specs.declared.Judgement.{Judgement}
 use Rattle.rules.specs.declared.Judgement.the-variants.{Judged}
 use Rattle.parity.proofs.Single.{fibre-one}
 use Rattle.theorems.specs.Exactly.{Exactly}
-use Rattle.theorems.specs.Accepted.{GoodWord, GoodLine}
+use Rattle.theorems.specs.Accepted.{GoodWord, GoodLine, GoodCoax}
 use Rattle.theorems.proofs.FullWords.{word-accepted}
 use Rattle.theorems.proofs.Lines.{line-accepted}
+use Rattle.theorems.proofs.CoaxWords.{coax-accepted}
 use Rattle.theorems.proofs.Fibre.{fibre-sized}
 use Rattle.lines.specs.Texts.{text}
 use Rattle.answers.specs.Answers.{lineOf, statusOf, Says}
@@ -57,3 +62,15 @@ pub line-status : (K : ℕ) (l : List ℕ) (d : ℕ) (s : Said) → Says (LineCh
 line-status K l d =
     shown (LineChecked fibreFormat K l d) (GoodLine fibreFormat K l d) (λ s. statusOf s ≡ 0)
     (line-accepted fibreFormat fibre-one fibre-sized K l d) accepted-status refl
+
+pub coax-said : (k : CoaxCode) (K : ℕ) (w : List ℕ) (s : Said) → Says (CoaxChecked k K w) s
+    → Exactly (lineOf s ≡ text "accepted\n") (GoodCoax k K w)
+coax-said k K w =
+    shown (CoaxChecked k K w) (GoodCoax k K w) (λ s. lineOf s ≡ text "accepted\n")
+    (coax-accepted k K w) accepted-alone refl
+
+pub coax-status : (k : CoaxCode) (K : ℕ) (w : List ℕ) (s : Said) → Says (CoaxChecked k K w) s
+    → Exactly (statusOf s ≡ 0) (GoodCoax k K w)
+coax-status k K w =
+    shown (CoaxChecked k K w) (GoodCoax k K w) (λ s. statusOf s ≡ 0)
+    (coax-accepted k K w) accepted-status refl

@@ -2,12 +2,14 @@
 // tells the exit status. What is wrong with an output is said before anything is computed.
 // A file is read into a buffer that is longer than any operation's bytes, so that the operation refuses what is too
 // long.
-ghost use Prim.Native.Nat.{_≤_};
+ghost use Prim.Native.Nat.{_+_, _^_, _≤_, _<_};
 ghost use lib.ListN.{length};
 ghost use Rattle.rules.specs.Formats.{fibreFormat};
 ghost use Rattle.rules.specs.Promises.{WordChecked, LineChecked};
+ghost use Rattle.rules.specs.Coax.{CoaxChecked};
 ghost use Rattle.answers.specs.Answers.{Says};
 use answers::Said;
+use codes::Code;
 use console::files;
 use console::numbers;
 use console::numbers::Number;
@@ -15,10 +17,54 @@ use console::say;
 use console::say::TROUBLE;
 use kinds::Known;
 use rules::Answer;
+use rules::CoaxCode;
 
-// The BITS of a whole payload, in the commands that take one.
-fn payload_bits() -> Number {
-    numbers::argument(2, b"BITS", b"257 to 14392")
+// Encodes the payload that was read into OUT.
+fn encode_into(
+    code: Code,
+    known: Known,
+    path: &[u8],
+    bits: usize,
+    payload: &[u8],
+    delimiter: usize,
+) -> u8
+    requires { ⌜ length (now path) ≤ 4091 ⌝ }
+{
+    let mut word = [0u8; rules::fibre::LINE_BYTES];
+    let answer = codes::encode(code, bits, payload, delimiter, &mut word);
+    match answer {
+        Answer::Done => {
+            let n = codes::encoded(code, bits, &word);
+            outputs::write(known, path, &word[..n])
+        }
+        Answer::Refused(number) => say::answer(Said::Refused(number)),
+    }
+}
+
+// Encodes PAYLOAD, argument i, into OUT, the next.
+fn encode_file(code: Code, bits: usize, delimiter: usize, i: usize) -> u8
+    requires { ⌜ i + 1 < 2 ^ 64 ⌝ }
+{
+    let mut path = io::buffer();
+    let output = outputs::find(i + 1, &mut path);
+    let to = output.size;
+    if to == 0 {
+        return TROUBLE;
+    }
+    let mut payload = io::buffer();
+    let got = files::read(i, &mut payload);
+    if !got.fine {
+        return TROUBLE;
+    }
+    let size = got.size;
+    encode_into(
+        code,
+        output.known,
+        &path[..to],
+        bits,
+        &payload[..size],
+        delimiter,
+    )
 }
 
 // encode BITS DELIMITER PAYLOAD OUT
@@ -26,66 +72,60 @@ pub fn encode() -> u8 {
     if os::arg_count() != 6 {
         return say::fault(b"encode needs BITS DELIMITER PAYLOAD OUT");
     }
-    let Number::Is(bits) = payload_bits() else {
+    let Number::Is(bits) = codes::payload_bits(Code::Fibre, 2) else {
         return TROUBLE;
     };
     let Number::Is(delimiter) = numbers::argument(3, b"DELIMITER", b"0 to 1023") else {
         return TROUBLE;
     };
-    let mut path = io::buffer();
-    let output = outputs::find(5, &mut path);
-    let to = output.size;
-    if to == 0 {
+    encode_file(Code::Fibre, bits, delimiter, 4)
+}
+
+// coax CODE encode BITS PAYLOAD OUT
+pub fn encode_coax(coax: CoaxCode) -> u8 {
+    if os::arg_count() != 7 {
+        return say::fault(b"encode needs BITS PAYLOAD OUT");
+    }
+    let code = Code::Coax(coax);
+    let Number::Is(bits) = codes::payload_bits(code, 4) else {
         return TROUBLE;
-    }
-    let mut payload = io::buffer();
-    let got = files::read(4, &mut payload);
-    if !got.fine {
-        return TROUBLE;
-    }
-    let size = got.size;
-    let mut line = [0u8; rules::fibre::LINE_BYTES];
-    let answer = line::encode(bits, &payload[..size], delimiter, &mut line);
-    match answer {
-        Answer::Done => {
-            let n = numbers::line_bytes(bits, &line);
-            outputs::write(output.known, &path[..to], &line[..n])
-        }
-        Answer::Refused(number) => say::answer(Said::Refused(number)),
-    }
+    };
+    encode_file(code, bits, codes::NO_DELIMITER, 5)
 }
 
 // Completes the word that was read into OUT.
-fn complete_into(known: Known, path: &[u8], bits: usize, word: &mut [u8]) -> u8
+fn complete_into(code: Code, known: Known, path: &[u8], bits: usize, word: &mut [u8]) -> u8
     requires { ⌜ length (now path) ≤ 4091 ⌝ }
 {
-    match word::complete(bits, word) {
+    match codes::complete(code, bits, word) {
         Answer::Done => outputs::write(known, path, word),
         Answer::Refused(number) => say::answer(Said::Refused(number)),
     }
 }
 
-// complete BITS WORD OUT
-pub fn complete() -> u8 {
-    if os::arg_count() != 5 {
+// complete BITS WORD OUT, of which BITS is argument i
+pub fn complete(code: Code, i: usize) -> u8
+    requires { ⌜ i + 3 < 2 ^ 64 ⌝ }
+{
+    if os::arg_count() != i + 3 {
         return say::fault(b"complete needs BITS WORD OUT");
     }
-    let Number::Is(bits) = payload_bits() else {
+    let Number::Is(bits) = codes::payload_bits(code, i) else {
         return TROUBLE;
     };
     let mut path = io::buffer();
-    let output = outputs::find(4, &mut path);
+    let output = outputs::find(i + 2, &mut path);
     let to = output.size;
     if to == 0 {
         return TROUBLE;
     }
     let mut word = io::buffer();
-    let got = files::read(3, &mut word);
+    let got = files::read(i + 1, &mut word);
     if !got.fine {
         return TROUBLE;
     }
     let size = got.size;
-    complete_into(output.known, &path[..to], bits, &mut word[..size])
+    complete_into(code, output.known, &path[..to], bits, &mut word[..size])
 }
 
 // What is said of a full word.
@@ -95,21 +135,38 @@ pub fn word_answer(bits: usize, word: &[u8]) -> Said
     Said::Judged(word::check(bits, word))
 }
 
-// word BITS WORD
-pub fn check_word() -> u8 {
-    if os::arg_count() != 4 {
+// What is said of a coax word.
+pub fn coax_answer(code: CoaxCode, bits: usize, word: &[u8]) -> Said
+    ensures { λ r. ⌜ Says (CoaxChecked code bits (now (word .entry))) r ⌝ }
+{
+    Said::Judged(coax::check(code, bits, word))
+}
+
+// Says the answer to a word by its code.
+fn say_answer(code: Code, bits: usize, word: &[u8]) -> u8 {
+    match code {
+        Code::Fibre => say::answer(word_answer(bits, word)),
+        Code::Coax(coax) => say::answer(coax_answer(coax, bits, word)),
+    }
+}
+
+// word BITS WORD, of which BITS is argument i
+pub fn check_word(code: Code, i: usize) -> u8
+    requires { ⌜ i + 2 < 2 ^ 64 ⌝ }
+{
+    if os::arg_count() != i + 2 {
         return say::fault(b"word needs BITS WORD");
     }
-    let Number::Is(bits) = payload_bits() else {
+    let Number::Is(bits) = codes::payload_bits(code, i) else {
         return TROUBLE;
     };
     let mut word = io::buffer();
-    let got = files::read(3, &mut word);
+    let got = files::read(i + 1, &mut word);
     if !got.fine {
         return TROUBLE;
     }
     let size = got.size;
-    say::answer(word_answer(bits, &word[..size]))
+    say_answer(code, bits, &word[..size])
 }
 
 // What is said of a line word.
@@ -124,7 +181,7 @@ pub fn check_line() -> u8 {
     if os::arg_count() != 5 {
         return say::fault(b"line needs BITS DELIMITER LINE");
     }
-    let Number::Is(bits) = payload_bits() else {
+    let Number::Is(bits) = codes::payload_bits(Code::Fibre, 2) else {
         return TROUBLE;
     };
     let Number::Is(delimiter) = numbers::argument(3, b"DELIMITER", b"0 to 1023") else {

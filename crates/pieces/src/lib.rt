@@ -1,8 +1,9 @@
-// The command over a payload in pieces: a stream is fed them one by one, and finished. Each answer names its piece; a
-// refused one is left out, and the last line counts those.
+// The commands over a payload in pieces: a stream is fed them one by one, and finished. Each answer names its piece; a
+// refused one is left out, and the last line counts those. The fibre code and the coax codes go the same way.
 ghost use Prim.Native.Nat.{_+_, _*_, _^_, _≤_, _<_};
 ghost use lib.ListN.{length};
 use answers::Said;
+use codes::Code;
 use console::files;
 use console::numbers;
 use console::numbers::Number;
@@ -11,6 +12,7 @@ use console::say::TROUBLE;
 use kinds::Known;
 use lessons::tally;
 use rules::Answer;
+use rules::CoaxCode;
 use rules::Stream;
 
 // A stream, how many of its pieces were refused, the worst exit status so far, and whether all pieces could be read.
@@ -21,20 +23,22 @@ struct Feeding {
     fine: bool,
 }
 
-// A piece is two arguments, BITS and PIECE: whether the one is a number and the other a file.
-fn is_piece(i: usize, j: usize) -> bool {
-    let Number::Is(_) = numbers::argument(i, b"BITS", b"0 to 14392") else {
+// A piece is two arguments, BITS and PIECE, from argument i on: whether the one is a number and the other a file.
+fn is_piece(code: Code, i: usize) -> bool
+    requires { ⌜ i + 1 < 2 ^ 64 ⌝ }
+{
+    let Number::Is(_) = codes::piece_bits(code, i) else {
         return false;
     };
-    files::is_there(j)
+    files::is_there(i + 1)
 }
 
-// Whether all the pieces are there, from argument 4 on.
-fn are_pieces(pieces: usize) -> bool
-    requires { ⌜ 4 + 2 * pieces < 2 ^ 64 ⌝ }
+// Whether all the pieces are there, from argument i on.
+fn are_pieces(code: Code, i: usize, pieces: usize) -> bool
+    requires { ⌜ i + 2 * pieces < 2 ^ 64 ⌝ }
 {
     for p in 0..pieces {
-        if !is_piece(4 + 2 * p, 5 + 2 * p) {
+        if !is_piece(code, i + 2 * p) {
             return false;
         }
     }
@@ -75,13 +79,13 @@ fn held(feeding: Feeding, piece: usize, stream: Stream) -> Feeding {
 }
 
 // Feeds the bytes of a piece to the stream, and says what it answers.
-fn fed(feeding: Feeding, piece: usize, bits: usize, bytes: &[u8]) -> Feeding {
+fn fed(code: Code, feeding: Feeding, piece: usize, bits: usize, bytes: &[u8]) -> Feeding {
     // A file that fills the buffer may go on: it is too long.
     if bytes.len() == 65536 {
         return refused(feeding, piece, 2);
     }
     let stream = feeding.stream;
-    let outcome = stream::piece(stream, bits, bytes);
+    let outcome = codes::piece(code, stream, bits, bytes);
     let answer = outcome.answer;
     let later = outcome.stream;
     match answer {
@@ -90,25 +94,25 @@ fn fed(feeding: Feeding, piece: usize, bits: usize, bytes: &[u8]) -> Feeding {
     }
 }
 
-// Feeds a piece, number p from 0 on.
-fn feed(feeding: Feeding, p: usize) -> Feeding
-    requires { ⌜ 6 + 2 * p < 2 ^ 64 ⌝ }
+// Feeds a piece, whose BITS is argument i.
+fn feed(code: Code, feeding: Feeding, piece: usize, i: usize) -> Feeding
+    requires { ⌜ i + 1 < 2 ^ 64 ⌝ }
 {
-    let Number::Is(bits) = numbers::argument(4 + 2 * p, b"BITS", b"0 to 14392") else {
+    let Number::Is(bits) = codes::piece_bits(code, i) else {
         return stopped(feeding);
     };
     let mut bytes = io::large_buffer();
-    let got = files::read(5 + 2 * p, &mut bytes);
+    let got = files::read(i + 1, &mut bytes);
     if !got.fine {
         return stopped(feeding);
     }
     let size = got.size;
-    fed(feeding, p + 1, bits, &bytes[..size])
+    fed(code, feeding, piece, bits, &bytes[..size])
 }
 
-// Feeds all the pieces to a fresh stream.
-fn feed_all(pieces: usize) -> Feeding
-    requires { ⌜ 4 + 2 * pieces < 2 ^ 64 ⌝ }
+// Feeds all the pieces, from argument i on, to a fresh stream.
+fn feed_all(code: Code, i: usize, pieces: usize) -> Feeding
+    requires { ⌜ i + 2 * pieces < 2 ^ 64 ⌝ }
 {
     let stream = stream::begin();
     let mut feeding = Feeding {
@@ -118,7 +122,7 @@ fn feed_all(pieces: usize) -> Feeding
         fine: true,
     };
     for p in 0..pieces {
-        feeding = feed(feeding, p);
+        feeding = feed(code, feeding, p + 1, i + 2 * p);
         if !feeding.fine {
             return feeding;
         }
@@ -127,14 +131,17 @@ fn feed_all(pieces: usize) -> Feeding
 }
 
 // Finishes the stream into OUT.
-fn finish(stream: Stream, delimiter: usize, known: Known, path: &[u8]) -> u8
+fn finish(code: Code, stream: Stream, delimiter: usize, known: Known, path: &[u8]) -> u8
     requires { ⌜ length (now path) ≤ 4091 ⌝ }
 {
     let mut tail = [0u8; rules::fibre::TAIL_BYTES];
-    let outcome = stream::finish(stream, delimiter, &mut tail);
+    let outcome = codes::finish(code, stream, delimiter, &mut tail);
     let answer = outcome.answer;
     match answer {
-        Answer::Done => outputs::write(known, path, &tail),
+        Answer::Done => {
+            let n = codes::finished(code, &tail);
+            outputs::write(known, path, &tail[..n])
+        }
         Answer::Refused(number) => say::answer(Said::Refused(number)),
     }
 }
@@ -147,34 +154,61 @@ fn say_refused(count: usize) -> u8 {
     say::answer(Said::PiecesRefused(count))
 }
 
-// stream DELIMITER OUT [BITS PIECE]...
-pub fn feed_and_finish() -> u8 {
-    let count = os::arg_count();
-    if count < 4 {
-        return say::fault(b"stream needs DELIMITER OUT [BITS PIECE]");
-    }
-    if count % 2 != 0 {
-        return say::fault(b"a piece has two parts; type BITS PIECE");
-    }
-    let pieces = (count - 4) / 2;
-    let Number::Is(delimiter) = numbers::argument(2, b"DELIMITER", b"0 to 1023") else {
-        return TROUBLE;
-    };
+// Feeds so many pieces and finishes. OUT is argument i, and the pieces come after it.
+fn feed_and_finish(code: Code, delimiter: usize, i: usize, pieces: usize) -> u8
+    requires { ⌜ i + 1 + 2 * pieces < 2 ^ 64 ⌝ }
+{
     let mut path = io::buffer();
-    let output = outputs::find(3, &mut path);
+    let output = outputs::find(i, &mut path);
     let to = output.size;
     if to == 0 {
         return TROUBLE;
     }
-    if !are_pieces(pieces) {
+    if !are_pieces(code, i + 1, pieces) {
         return TROUBLE;
     }
-    let feeding = feed_all(pieces);
+    let feeding = feed_all(code, i + 1, pieces);
     if !feeding.fine {
         return TROUBLE;
     }
     let later = feeding.stream;
-    let last = finish(later, delimiter, output.known, &path[..to]);
+    let last = finish(code, later, delimiter, output.known, &path[..to]);
     let refused = say_refused(feeding.refused);
     say::worse(feeding.status, say::worse(last, refused))
+}
+
+// Whether so many arguments are pieces, two each. Else says so.
+fn are_pairs(count: usize) -> bool {
+    if count % 2 != 0 {
+        say::fault(b"a piece has two parts; type BITS PIECE");
+        return false;
+    }
+    true
+}
+
+// stream DELIMITER OUT [BITS PIECE]...
+pub fn feed_fibre() -> u8 {
+    let count = os::arg_count();
+    if count < 4 {
+        return say::fault(b"stream needs DELIMITER OUT [BITS PIECE]");
+    }
+    if !are_pairs(count - 4) {
+        return TROUBLE;
+    }
+    let Number::Is(delimiter) = numbers::argument(2, b"DELIMITER", b"0 to 1023") else {
+        return TROUBLE;
+    };
+    feed_and_finish(Code::Fibre, delimiter, 3, (count - 4) / 2)
+}
+
+// coax CODE stream OUT [BITS PIECE]...
+pub fn feed_coax(coax: CoaxCode) -> u8 {
+    let count = os::arg_count();
+    if count < 5 {
+        return say::fault(b"stream needs OUT [BITS PIECE]");
+    }
+    if !are_pairs(count - 5) {
+        return TROUBLE;
+    }
+    feed_and_finish(Code::Coax(coax), codes::NO_DELIMITER, 4, (count - 5) / 2)
 }

@@ -5,10 +5,10 @@ use Rattle.pieces.proofs.are_pieces.Statement.{statement}
 use Rattle.pieces.proofs.are_pieces.Tie as tie
 
 abbrev Inv-loop : tie.InvT-loop
-Inv-loop pieces p₀ p = p ≤ pieces
+Inv-loop code i pieces p₀ p = p ≤ pieces
 
 abbrev μ-loop : tie.MeasureT-loop
-μ-loop pieces p₀ p = pieces - p
+μ-loop code i pieces p₀ p = pieces - p
 
 loop-holds : tie.Need-loop-holds Inv-loop μ-loop
 loop-holds c = search needs
@@ -18,12 +18,6 @@ mul-is-piece c = search needs
 
 add-is-piece : tie.Need-add-is-piece Inv-loop μ-loop
 add-is-piece c = search needs
-
-mul-is-piece-2 : tie.Need-mul-is-piece-2 Inv-loop μ-loop
-mul-is-piece-2 c = search needs
-
-add-is-piece-2 : tie.Need-add-is-piece-2 Inv-loop μ-loop
-add-is-piece-2 c = search needs
 
 is-piece-requires : tie.Need-is-piece-requires Inv-loop μ-loop
 is-piece-requires c κs = search needs
@@ -52,8 +46,6 @@ are-pieces-spec =
     loop-holds
     mul-is-piece
     add-is-piece
-    mul-is-piece-2
-    add-is-piece-2
     is-piece-requires
     returns
     add-p

@@ -5,16 +5,25 @@ use Rattle.pieces.proofs.feed_all.Statement.{statement}
 use Rattle.pieces.proofs.feed_all.Tie as tie
 
 abbrev Inv-loop : tie.InvT-loop
-Inv-loop pieces feeding₀ p₀ feeding p = p ≤ pieces
+Inv-loop code i pieces feeding₀ p₀ feeding p = p ≤ pieces
 
 abbrev μ-loop : tie.MeasureT-loop
-μ-loop pieces feeding₀ p₀ feeding p = pieces - p
+μ-loop code i pieces feeding₀ p₀ feeding p = pieces - p
 
 begin-requires : tie.Need-begin-requires Inv-loop μ-loop
 begin-requires c κs = search needs
 
 loop-holds : tie.Need-loop-holds Inv-loop μ-loop
 loop-holds c = search needs
+
+add-feed : tie.Need-add-feed Inv-loop μ-loop
+add-feed c = search needs
+
+mul-feed : tie.Need-mul-feed Inv-loop μ-loop
+mul-feed c = search needs
+
+add-feed-2 : tie.Need-add-feed-2 Inv-loop μ-loop
+add-feed-2 c = search needs
 
 feed-requires : tie.Need-feed-requires Inv-loop μ-loop
 feed-requires c κs = search needs
@@ -42,6 +51,9 @@ feed-all-spec =
     μ-loop
     begin-requires
     loop-holds
+    add-feed
+    mul-feed
+    add-feed-2
     feed-requires
     returns
     add-p
