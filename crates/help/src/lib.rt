@@ -16,6 +16,10 @@ fn all() -> u8 {
         word BITS WORD\n\
         line BITS DELIMITER LINE\n\
         stream DELIMITER OUT [BITS PIECE]...\n\
+        coax CODE encode BITS PAYLOAD OUT\n\
+        coax CODE complete BITS WORD OUT\n\
+        coax CODE word BITS WORD\n\
+        coax CODE stream OUT [BITS PIECE]...\n\
         help [COMMAND]\n\
         help refusal [NUMBER]\n\
         help ANSWER, such as help check\n\
@@ -104,6 +108,31 @@ fn stream() -> u8 {
     )
 }
 
+fn coax() -> u8 {
+    say::text(
+        b"coax CODE encode BITS PAYLOAD OUT\n\
+        coax CODE complete BITS WORD OUT\n\
+        coax CODE word BITS WORD\n\
+        coax CODE stream OUT [BITS PIECE]...\n\
+        CODE: 16200 or 5940, the word's bits\n\
+        BITS: 14400 with 16200, 5040 with 5940;\n\
+        those of a PIECE may be fewer\n\
+        PAYLOAD: a file of 1800 or 630 bytes\n\
+        WORD: a file of 2025 or 743 bytes,\n\
+        for complete with any parity\n\
+        PIECE: a file of BITS bits\n\
+        OUT: the word, or of stream its parity\n\
+        alone, 225 or 113 bytes,\n\
+        written or replaced whole\n\
+        answers: written, accepted, check;\n\
+        of stream, piece NUMBER held BITS first\n\
+        refusals of encode, in order: 1 2\n\
+        of complete and word, in order: 1 2 3\n\
+        of a piece, in order: 2 3 6\n\
+        of a stream's end: 1\n",
+    )
+}
+
 fn help() -> u8 {
     say::text(
         b"help [COMMAND]\n\
@@ -114,10 +143,16 @@ fn help() -> u8 {
     )
 }
 
-// Every refusal: its number, when it is given, and what to do. include/birdovesta.h has the same words.
+// Every refusal: its number, when it is given, where that differs also when with coax, and what to do.
+// include/birdovesta.h has the same words.
 fn refusal(number: usize) -> u8 {
     match number {
-        1 => say::text(b"refusal 1\nbits is 0 or above 14392\nGive 257 to 14392 bits.\n"),
+        1 => say::text(
+            b"refusal 1\n\
+            bits is 0 or above 14392\n\
+            coax: bits is not 14400 or 5040\n\
+            Give 257 to 14392, or these with coax.\n",
+        ),
         2 => say::text(
             b"refusal 2\ntoo many or too few bytes\nGive just the bytes that the bits take.\n",
         ),
@@ -127,9 +162,17 @@ fn refusal(number: usize) -> u8 {
         4 => say::text(b"refusal 4\nthe delimiter is above 1023\nGive 0 to 1023.\n"),
         5 => say::text(b"refusal 5\nthe output is shorter than needed\nLend more bytes from C.\n"),
         6 => say::text(
-            b"refusal 6\nmore than 14392 bits with this piece\nBegin the next word with it.\n",
+            b"refusal 6\n\
+            more than 14392 bits with this piece\n\
+            coax: more than 14400 or 5040\n\
+            Begin the next word with it.\n",
         ),
-        7 => say::text(b"refusal 7\nthe stream claims above 14392 bits\nBegin a new stream.\n"),
+        7 => say::text(
+            b"refusal 7\n\
+            the stream claims above 14392 bits\n\
+            coax: above 14400 or 5040\n\
+            Begin a new stream.\n",
+        ),
         8 => say::text(b"refusal 8\na shortened place is 1\nSet places BITS to 14591 to 0.\n"),
         10 => say::text(
             b"refusal 10\nbits is not a multiple of 257\nGive whole data blocks of 257 bits.\n",
@@ -208,7 +251,7 @@ fn of_progress(word: &[u8]) -> u8 {
         return say::text(
             b"piece NUMBER held BITS\n\
             The stream holds so many bits now.\n\
-            The finish takes a multiple of 257.\n",
+            The end takes as many as encode does.\n",
         );
     }
     if check::same(word, b"refused") {
@@ -247,6 +290,9 @@ fn of_word(name: &[u8]) -> u8 {
     }
     if check::same(name, b"stream") {
         return stream();
+    }
+    if check::same(name, b"coax") {
+        return coax();
     }
     if check::same(name, b"help") {
         return help();
