@@ -1,6 +1,7 @@
 // The codes that the program serves: the fibre code and the two coax codes. How CODE names one, what BITS may be, and
 // each operation by its code, so that a command is written once for all of them.
 ghost use Rattle.io.specs.Counts.{Counts};
+ghost use Rattle.codes.specs.Codes.{EncodedBy, CompletedBy, TakenBy, FinishedBy};
 use console::numbers;
 use console::numbers::Number;
 use rules::Answer;
@@ -65,13 +66,9 @@ pub fn bytes_of(bits: usize, buffer: &[u8]) -> usize
 }
 
 // Encodes a payload.
-pub fn encode(
-    code: Code,
-    bits: usize,
-    payload: &[u8],
-    delimiter: usize,
-    word: &mut [u8],
-) -> Answer {
+pub fn encode(code: Code, bits: usize, payload: &[u8], delimiter: usize, word: &mut [u8]) -> Answer
+    ensures { λ r. ⌜ EncodedBy code bits (now (payload .entry)) delimiter (now (word .entry)) r (now (word .exit)) ⌝ }
+{
     match code {
         Code::Fibre => line::encode(bits, payload, delimiter, word),
         Code::Coax(coax) => coax::encode(coax, bits, payload, word),
@@ -89,7 +86,9 @@ pub fn encoded(code: Code, bits: usize, buffer: &[u8]) -> usize
 }
 
 // Completes a word.
-pub fn complete(code: Code, bits: usize, word: &mut [u8]) -> Answer {
+pub fn complete(code: Code, bits: usize, word: &mut [u8]) -> Answer
+    ensures { λ r. ⌜ CompletedBy code bits (now (word .entry)) r (now (word .exit)) ⌝ }
+{
     match code {
         Code::Fibre => word::complete(bits, word),
         Code::Coax(coax) => coax::complete(coax, bits, word),
@@ -97,7 +96,9 @@ pub fn complete(code: Code, bits: usize, word: &mut [u8]) -> Answer {
 }
 
 // Takes a piece of a stream.
-pub fn piece(code: Code, stream: Stream, bits: usize, bytes: &[u8]) -> Outcome {
+pub fn piece(code: Code, stream: Stream, bits: usize, bytes: &[u8]) -> Outcome
+    ensures { λ r. ⌜ TakenBy code bits (now (bytes .entry)) stream r ⌝ }
+{
     match code {
         Code::Fibre => stream::piece(stream, bits, bytes),
         Code::Coax(coax) => coax::piece(coax, stream, bits, bytes),
@@ -105,7 +106,9 @@ pub fn piece(code: Code, stream: Stream, bits: usize, bytes: &[u8]) -> Outcome {
 }
 
 // Finishes a stream.
-pub fn finish(code: Code, stream: Stream, delimiter: usize, tail: &mut [u8]) -> Outcome {
+pub fn finish(code: Code, stream: Stream, delimiter: usize, tail: &mut [u8]) -> Outcome
+    ensures { λ r. ⌜ FinishedBy code delimiter stream (now (tail .entry)) r (now (tail .exit)) ⌝ }
+{
     match code {
         Code::Fibre => stream::finish(stream, delimiter, tail),
         Code::Coax(coax) => coax::finish(coax, stream, tail),

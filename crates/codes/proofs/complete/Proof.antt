@@ -1,0 +1,18 @@
+-- `codes::complete` meets its contract.
+use borrow.Author.Needs.{needs}
+use mathlib.Core.Path.{_≡_}
+use Rattle.codes.specs.declared.Code.the-variants.{Fibre}
+use Rattle.codes.proofs.complete.Statement.{statement}
+use Rattle.codes.proofs.complete.Tie as tie
+
+returns : tie.Need-returns
+returns c = let told : c .before .before .before .before .before .before .before .args .code ≡ Fibre = search needs in rw told (c .before .before .complete .ensures)
+
+returns-2 : tie.Need-returns-2
+returns-2 c = rw (c .before .before .before .before .before .code .given .1) (c .before .before .complete2 .ensures)
+
+pub complete-spec : {M : Type 1} → statement M
+complete-spec =
+    tie.close
+    (tie.spec (λ c. search needs) (λ c κs. search needs) (λ c. search needs) (λ c κs. search needs) (λ c. search needs)
+    returns (λ c. search needs) returns-2)

@@ -1,0 +1,18 @@
+-- `codes::encode` meets its contract.
+use borrow.Author.Needs.{needs}
+use mathlib.Core.Path.{_≡_}
+use Rattle.codes.specs.declared.Code.the-variants.{Fibre}
+use Rattle.codes.proofs.encode.Statement.{statement}
+use Rattle.codes.proofs.encode.Tie as tie
+
+returns : tie.Need-returns
+returns c = let told : c .before .before .before .before .before .before .before .before .args .code ≡ Fibre = search needs in rw told (c .before .before .encode .ensures)
+
+returns-2 : tie.Need-returns-2
+returns-2 c = rw (c .before .before .before .before .before .code .given .1) (c .before .before .encode2 .ensures)
+
+pub encode-spec : {M : Type 1} → statement M
+encode-spec =
+    tie.close
+    (tie.spec (λ c. search needs) (λ c κs. search needs) (λ c. search needs) (λ c κs. search needs) (λ c. search needs)
+    returns (λ c. search needs) returns-2)

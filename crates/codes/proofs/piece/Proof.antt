@@ -1,0 +1,17 @@
+-- `codes::piece` meets its contract.
+use borrow.Author.Needs.{needs}
+use mathlib.Core.Path.{_≡_}
+use Rattle.codes.specs.declared.Code.the-variants.{Fibre}
+use Rattle.codes.proofs.piece.Statement.{statement}
+use Rattle.codes.proofs.piece.Tie as tie
+
+returns : tie.Need-returns
+returns c = let told : c .before .before .before .before .args .code ≡ Fibre = search needs in rw told (c .piece .ensures)
+
+returns-2 : tie.Need-returns-2
+returns-2 c = rw (c .before .before .code .given .1) (c .piece2 .ensures)
+
+pub piece-spec : {M : Type 1} → statement M
+piece-spec =
+    tie.close
+    (tie.spec (λ c. search needs) (λ c κs. search needs) (λ c. search needs) (λ c κs. search needs) returns returns-2)
