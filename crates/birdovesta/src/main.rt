@@ -3,7 +3,6 @@ use codes::Code;
 use codes::Named;
 use console::say;
 use console::say::TROUBLE;
-use lessons::coax_sheet;
 use lessons::sheet;
 use lessons::tally;
 use rules::CoaxCode;
@@ -22,7 +21,7 @@ fn lessons() -> u8 {
     if size == 65536 {
         return say::fault(b"VECTORS is too long; cut it in two");
     }
-    let tally = coax_sheet::run(sheet::run());
+    let tally = coax_lessons::run(sheet::run());
     tally::total(vectors::run(&text[..size], tally))
 }
 

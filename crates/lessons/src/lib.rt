@@ -1,6 +1,5 @@
-// The lesson sheet of paper 01 and the lessons on the coax codes, run through the proved libraries and compared.
-pub mod coax_sheet;
-mod expected;
-mod places;
+// The lesson sheet of paper 01, run through the proved libraries and compared, and what other lessons share with it.
+pub mod expected;
+pub mod places;
 pub mod sheet;
 pub mod tally;

@@ -1,14 +1,14 @@
 // The lessons of W8 of paper 02, run through the libraries for each coax code. What a lesson expects comes from the
 // tables of source document 001.
-use crate::expected::is_check;
-use crate::expected::is_done;
-use crate::expected::is_judged_refused;
-use crate::expected::is_refused;
-use crate::expected::lesson;
-use crate::expected::set;
-use crate::places;
-use crate::tally::Tally;
 use codes::Code;
+use lessons::expected::is_check;
+use lessons::expected::is_done;
+use lessons::expected::is_judged_refused;
+use lessons::expected::is_refused;
+use lessons::expected::lesson;
+use lessons::expected::set;
+use lessons::places;
+use lessons::tally::Tally;
 use rules::CoaxCode;
 use rules::Stream;
 
