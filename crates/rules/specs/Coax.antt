@@ -2,10 +2,12 @@
 -- nothing punctured, there is no delimiter, and a payload fills the payload places.
 --
 --   coaxCode k               the code k: blocks of 360 or of 180, five block rows, 45 or 33 block columns
+--                            (coaxSize, coaxColumns), and its table's lines (coaxLines)
 --   coaxFormat k             its format: payloads of exactly the payload places, 14,400 or 5,040; all parity is sent
 --   coaxEncodeOrder f K u m  the order of encode, to m bytes
 --   coaxWordOrder f K w      of complete and of the check
 --   coaxFinishOrder f h m    of a stream's finish, to m bytes; that of a piece is pieceOrder
+--   Counted f K              K is from the least to the most; of a coax code these are one number
 --   Coax..Asks               the same orders read the other way round: what each operation asks; a piece, PieceAsks
 --   CoaxEncoded k ..         encode: the word is the payload, then all of its parity
 --   CoaxCompleted k ..       complete
