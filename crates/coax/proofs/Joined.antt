@@ -19,7 +19,8 @@ use Rattle.laws.proofs.Written.{written-as}
 use Rattle.laws.proofs.Tails.{tail-low}
 use Rattle.laws.proofs.Parities.{packed-clear}
 
-pub copied-length : (u o : List ℕ) {v : List ℕ} → v ≡ u → length u ≤ length o → length (v ++ drop (length u) o) ≡ length o
+pub copied-length : (u o : List ℕ) {v : List ℕ} → v ≡ u → length u ≤ length o
+    → length (v ++ drop (length u) o) ≡ length o
 copied-length u o same h = rw same (simp (length-append, length-drop) (omega arith))
 
 module _ (u p o : List ℕ) (a b : ℕ) (front : length u ≡ a) (packed : Packed b p) (fits : a + need b ≤ length o) where

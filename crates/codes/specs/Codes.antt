@@ -1,11 +1,15 @@
--- What the program's operations promise, by the code that a command serves: just what the operation of that code does.
+-- How a command names a coax code, and what the program's operations promise, by the code that a command serves: just
+-- what the operation of that code does.
 --
+--   nameOf k           how CODE names the coax code k: by the bits of its words
+--   NamedBy s n        what the name s names: the code of that name, or nothing where no code has it
 --   EncodedBy c ..     encode; a coax word has no delimiter
 --   CompletedBy c ..   complete
 --   TakenBy c ..       a piece of a stream
 --   FinishedBy c ..    a stream's finish
 --
 -- Nothing here is proved.
+use mathlib.Core.Path.{_≡_}
 use mathlib.Core.List.{List}
 use Prim.Native.Nat.{ℕ}
 use Rattle.rules.specs.Formats.{fibreFormat}
@@ -14,8 +18,21 @@ use Rattle.rules.specs.Coax.{coaxFormat, CoaxEncoded, CoaxCompleted, CoaxFinish
 use Rattle.rules.specs.declared.Answer.{Answer}
 use Rattle.rules.specs.declared.Stream.{Stream}
 use Rattle.rules.specs.declared.Outcome.{Outcome}
+use Rattle.rules.specs.declared.CoaxCode.{CoaxCode}
+use Rattle.rules.specs.declared.CoaxCode.the-variants.{Long, Short}
+use Rattle.lines.specs.Texts.{text}
+use Rattle.codes.specs.declared.Named.{Named}
+use Rattle.codes.specs.declared.Named.the-variants.{Is, Nothing}
 use Rattle.codes.specs.declared.Code.{Code}
 use Rattle.codes.specs.declared.Code.the-variants.{Fibre, Coax}
+
+abbrev pub nameOf : CoaxCode → List ℕ
+nameOf Long = text "16200"
+nameOf Short = text "5940"
+
+abbrev pub NamedBy : List ℕ → Named → Type 0
+NamedBy s (Is k) = s ≡ nameOf k
+NamedBy s Nothing = (k : CoaxCode) → s ≡ nameOf k → ⊥
 
 abbrev pub EncodedBy : Code → ℕ → List ℕ → ℕ → List ℕ → Answer → List ℕ → Type 0
 EncodedBy Fibre K u d o a o′ = Encoded fibreFormat K u d o a o′

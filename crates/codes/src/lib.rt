@@ -1,7 +1,7 @@
 // The codes that the program serves: the fibre code and the two coax codes. How CODE names one, what BITS may be, and
 // each operation by its code, so that a command is written once for all of them.
 ghost use Rattle.io.specs.Counts.{Counts};
-ghost use Rattle.codes.specs.Codes.{EncodedBy, CompletedBy, TakenBy, FinishedBy};
+ghost use Rattle.codes.specs.Codes.{NamedBy, EncodedBy, CompletedBy, TakenBy, FinishedBy};
 use console::numbers;
 use console::numbers::Number;
 use rules::Answer;
@@ -23,7 +23,9 @@ pub enum Named {
     Nothing,
 }
 
-pub fn find(name: &[u8]) -> Named {
+pub fn find(name: &[u8]) -> Named
+    ensures { λ r. ⌜ NamedBy (now (name .entry)) r ⌝ }
+{
     if check::same(name, b"16200") {
         return Named::Is(CoaxCode::Long);
     }

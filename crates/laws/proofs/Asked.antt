@@ -28,18 +28,16 @@ packed : {b : ℕ} {s : List ℕ} → (wrongBytes s b .applies → ⊥) → (unu
 packed bytes unused = record { bytes = not-different _ _ bytes; unused = unused }
 
 module _ (f : Format) where
-  pub whole-blocks : {K : ℕ} → (badCount f K .applies → ⊥) → (brokenBlock f K .applies → ⊥) → WholeBlocks f K
-  whole-blocks {K} bad broken = record {
-    least = not-above K (f .least) (λ l. bad (inl l));
-    most = not-above (f .most) K (λ l. bad (inr l));
-    whole = not-different _ _ broken;
-  }
-
   counted : {K : ℕ} → (badCount f K .applies → ⊥) → Counted f K
   counted {K} bad = record {
     least = not-above K (f .least) (λ l. bad (inl l));
     most = not-above (f .most) K (λ l. bad (inr l));
   }
+
+  pub whole-blocks : {K : ℕ} → (badCount f K .applies → ⊥) → (brokenBlock f K .applies → ⊥) → WholeBlocks f K
+  whole-blocks bad broken =
+      let c = counted bad in
+      record { least = c .least; most = c .most; whole = not-different _ _ broken }
 
   module _ {r : ℕ} (e : r ≡ 0) where
     pub encode-asked : (K : ℕ) (u : List ℕ) (d room : ℕ) → tells (encodeOrder f K u d room) r → EncodeAsks f K u d room

@@ -63,7 +63,8 @@ pub extern "C" fn measured_piece_16200(
 #[no_mangle]
 pub extern "C" fn measured_finish_16200(held: usize, checks: &mut [u8], tail: &mut [u8]) -> u64
     ensures { λ r. ⌜
-        CoaxFinish CoaxCode.Long held (now (checks .entry)) (now (tail .entry)) r (now (checks .exit)) (now (tail .exit))
+        CoaxFinish CoaxCode.Long held (now (checks .entry)) (now (tail .entry)) r (now (checks .exit))
+        (now (tail .exit))
         ⌝ }
 {
     finish(CoaxCode::Long, held, checks, tail)
@@ -94,7 +95,8 @@ pub extern "C" fn measured_piece_5940(
 #[no_mangle]
 pub extern "C" fn measured_finish_5940(held: usize, checks: &mut [u8], tail: &mut [u8]) -> u64
     ensures { λ r. ⌜
-        CoaxFinish CoaxCode.Short held (now (checks .entry)) (now (tail .entry)) r (now (checks .exit)) (now (tail .exit))
+        CoaxFinish CoaxCode.Short held (now (checks .entry)) (now (tail .entry)) r (now (checks .exit))
+        (now (tail .exit))
         ⌝ }
 {
     finish(CoaxCode::Short, held, checks, tail)

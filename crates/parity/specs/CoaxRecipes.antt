@@ -1,6 +1,6 @@
--- The recipes for the parity of the coax codes: 9 steps each, over 10 registers of a block's bits. Registers 0 to 4 hold
--- the checks at the start, and registers 5 to 9 the parity at the end. For the contracts of inner functions: no public
--- promise cites this file.
+-- The recipes for the parity of the coax codes: 9 steps each, over 10 registers of a block's bits. Registers 0 to 4
+-- hold the checks at the start, and registers 5 to 9 the parity at the end. For the contracts of inner functions: no
+-- public promise cites this file.
 --
 --   coaxRecipe k    the steps of the code k, each a group of its own
 --   coaxSteps k     the same as numbers, as the code has them

@@ -16,7 +16,7 @@ use rules::coax;
 const REGISTER_BYTES: usize = 450;
 
 // The recipe of the longer code, a step to a line: its target, its source and its turn, as the fibre code's is written.
-// The turn's part above 255 stands first. The parity columns are a staircase, so each block follows from the one before.
+// The turn's part above 255 stands first. The parity columns are a staircase: each block follows from the one before.
 const LONG: [u32; 9] = [
     0x05_00_d9,
     0x06_01_1a,

@@ -2,8 +2,8 @@
 -- numbers of the coax codes.
 --
 --   coax-facts     Table 101-3: 45 lines of 5 entries, 225 in all, each from -1 to 359; 169 are not -1, of which 9 are
---                  in lines 41 to 45. Table 101-4: 33 lines of 5, 165 in all, from -1 to 179; 131 are not -1, of which 9
---                  are in lines 29 to 33
+--                  in lines 41 to 45. Table 101-4: 33 lines of 5, 165 in all, from -1 to 179; 131 are not -1, of which
+--                  9 are in lines 29 to 33
 --   coax-fits      so both pass the test of a table
 --   coax-lines     a table has as many lines as there are block columns
 --   Numbers k      what the code k's numbers have in common; coax-numbers shows it

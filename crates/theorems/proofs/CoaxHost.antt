@@ -51,7 +51,8 @@ module _ (k : CoaxCode) (K : ℕ) (w : List ℕ) where
     check-told : CoaxChecked k K w (readBack r) × Exactly (r ≡ 0) (GoodCoax k K w)
         × Exactly ((0 < r) × (r < 2 ^ 16)) (CoaxChecked k K w (Refused r))
     check-told =
-        told (CoaxChecked k K w) _ (coax-accepted k K w) (coax-check-fits k K w) r (x .judgement) (x .checked) (x .result)
+        told (CoaxChecked k K w) _ (coax-accepted k K w) (coax-check-fits k K w) r (x .judgement) (x .checked)
+        (x .result)
 
     pub host-coax-check-read : CoaxChecked k K w (readBack r)
     host-coax-check-read = check-told .0

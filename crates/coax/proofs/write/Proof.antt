@@ -24,7 +24,8 @@ payload-checks-requires c κs = omega arith
 
 sub-solve : tie.Need-sub-solve
 sub-solve c =
-    let n = coax-numbers (c .before .before .before .before .before .before .before .before .before .before .args .code) in
+    let needed = c .before .before .before .before .before .before in
+    let n = coax-numbers (needed .before .before .before .before .args .code) in
     omega (arith, n .parts)
 
 part-solve-start : tie.Need-part-solve-start

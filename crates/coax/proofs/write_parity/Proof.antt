@@ -36,7 +36,8 @@ returns c =
     let k = coaxCode (a .code) in
     let p = found .solve .last .1 .1 .0 in (
       p,
-      payload-parity k (bit (a .word .now)) _ p (λ n h. told .before .payload-checks .ensures n) (found .solve .ensures),
+      payload-parity k (bit (a .word .now)) _ p (λ n h. told .before .payload-checks .ensures n)
+          (found .solve .ensures),
       rw (told .payload-places .ensures) (mid-rest (a .word .now) p (payloadPlaces k / 8)),
     )
 

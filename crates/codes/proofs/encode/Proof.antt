@@ -6,7 +6,10 @@ use Rattle.codes.proofs.encode.Statement.{statement}
 use Rattle.codes.proofs.encode.Tie as tie
 
 returns : tie.Need-returns
-returns c = let told : c .before .before .before .before .before .before .before .before .args .code ≡ Fibre = search needs in rw told (c .before .before .encode .ensures)
+returns c =
+    let did = c .before .before in
+    let told : did .before .before .before .before .before .before .args .code ≡ Fibre = search needs in
+    rw told (did .encode .ensures)
 
 returns-2 : tie.Need-returns-2
 returns-2 c = rw (c .before .before .before .before .before .code .given .1) (c .before .before .encode2 .ensures)

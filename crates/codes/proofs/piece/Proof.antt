@@ -6,7 +6,9 @@ use Rattle.codes.proofs.piece.Statement.{statement}
 use Rattle.codes.proofs.piece.Tie as tie
 
 returns : tie.Need-returns
-returns c = let told : c .before .before .before .before .args .code ≡ Fibre = search needs in rw told (c .piece .ensures)
+returns c =
+    let told : c .before .before .before .before .args .code ≡ Fibre = search needs in
+    rw told (c .piece .ensures)
 
 returns-2 : tie.Need-returns-2
 returns-2 c = rw (c .before .before .code .given .1) (c .piece2 .ensures)

@@ -17,8 +17,9 @@ returns-2 c =
     let made = c .before .before .before .before .before .stream-of in
     let test = c .before .before .before .before .before .before .before in
     let a = test .before .before .before .args in
-    lent-handed (PieceTaken fibreFormat (a .count) (a .bytes .now)) (a .held) _ (a .checks .now) _ _ (made .result) (did .result)
-    (test .if1 .left) (made .ensures) (did .ensures) (c .before .before .hand-back .ensures)
+    lent-handed (PieceTaken fibreFormat (a .count) (a .bytes .now))
+    (a .held) _ (a .checks .now) _ _ (made .result) (did .result) (test .if1 .left) (made .ensures) (did .ensures)
+    (c .before .before .hand-back .ensures)
 
 pub measured-piece-spec : {M : Type 1} → statement M
 measured-piece-spec =

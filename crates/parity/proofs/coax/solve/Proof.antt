@@ -60,8 +60,12 @@ follow-requires c κs =
     let size = told .before .before .size .ensures in
     let k = told .before .before .before .before .before .args .code in
     let n = coax-numbers k in
-    rw (size, told .recipe-of .ensures)
-    (n .some, omega (arith, n .size), omega arith, codes-fit (coax-solves k) (coax-coded k) refl _ (omega (arith, n .size)))
+    rw (size, told .recipe-of .ensures) (
+      n .some,
+      omega (arith, n .size),
+      omega arith,
+      codes-fit (coax-solves k) (coax-coded k) refl _ (omega (arith, n .size)),
+    )
 
 add-run-requires-2 : tie.Need-add-run-requires-2
 add-run-requires-2 c κs =

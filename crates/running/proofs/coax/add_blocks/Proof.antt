@@ -41,14 +41,16 @@ returns c =
     let copied = c .before .before .before .before .before in
     let a = copied .before .before .before .before .before .before .args in
     let told : a .code ≡ Long = search needs in
-    lines-added told (copied .copy-long .ensures) (a .word .now) (a .from) (a .to) (c .before .before .add-lines .ensures)
+    lines-added told (copied .copy-long .ensures) (a .word .now) (a .from) (a .to)
+    (c .before .before .add-lines .ensures)
 
 returns-2 : tie.Need-returns-2
 returns-2 c =
     let copied = c .before .before .before .before .before in
     let a = copied .before .before .before .before .before .before .args in
     let told : a .code ≡ Short = search needs in
-    lines-added told (copied .copy-short .ensures) (a .word .now) (a .from) (a .to) (c .before .before .add-lines2 .ensures)
+    lines-added told (copied .copy-short .ensures) (a .word .now) (a .from) (a .to)
+    (c .before .before .add-lines2 .ensures)
 
 pub add-blocks-spec : {M : Type 1} → statement M
 add-blocks-spec =
