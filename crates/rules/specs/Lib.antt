@@ -2,6 +2,7 @@ pub mod Bits
 pub mod Matrix
 pub mod Table
 pub mod CoaxTables
+pub mod Lists
 pub mod Formats
 pub mod Words
 pub mod Verdicts
