@@ -70,20 +70,21 @@ module _ (u p o : List ℕ) (a b : ℕ) (front : length u ≡ a) (packed : Packe
         after = rw e rest;
       }
 
-  pub line-joined : (f : Format) (K d : ℕ) → 8 * a ≡ K → f .sent ≡ b → f .delimiter ≡ 0
+  pub line-joined : (f : Format) (K d : ℕ) → ((t : ℕ) → f .second t ≡ t) → 8 * a ≡ K → f .sent ≡ b → f .delimiter ≡ 0
       → Written (lineBits f K) (lineWord f K (bit u) p d) o joined
-  line-joined f K d whole sent none =
+  line-joined f K d kept whole sent none =
       let e : 8 * a + b ≡ lineBits f K = omega arith in
       written-as (λ n h.
       rw whole
       (run-each K (bit u) (bit p) n (λ v. v ≡ lineWord f K (bit u) p d n)
       (λ l. sym (run-low K (bit u) (tail f p d) n l))
-      (λ l. sym (run-high K (bit u) (tail f p d) n l ∙ tail-low f p d (n - K) (omega arith)))))
+      (λ l. sym (run-high K (bit u) (tail f p d) n l ∙ tail-low f p d (n - K) (omega arith)
+      ∙ ap (bit p) (kept (n - K))))))
       (subst (λ (m : ℕ). Written m bits o joined) e joined-written)
 
-pub tail-joined : (f : Format) (p o : List ℕ) (d : ℕ) → Packed (f .sent) p → need (f .sent) ≤ length o
-    → f .delimiter ≡ 0 → Written (tailBits f) (tail f p d) o (p ++ drop (need (f .sent)) o)
-tail-joined f p o d packed fits none =
+pub tail-joined : (f : Format) (p o : List ℕ) (d : ℕ) → ((t : ℕ) → f .second t ≡ t) → Packed (f .sent) p
+    → need (f .sent) ≤ length o → f .delimiter ≡ 0 → Written (tailBits f) (tail f p d) o (p ++ drop (need (f .sent)) o)
+tail-joined f p o d kept packed fits none =
     let whole : lineBits f 0 ≡ tailBits f = omega arith in
     written-as (λ n h. run-none (bit []) (tail f p d) n)
-    (rw whole at (line-joined [] p o 0 (f .sent) refl packed (omega arith) f 0 d refl refl none))
+    (rw whole at (line-joined [] p o 0 (f .sent) refl packed (omega arith) f 0 d kept refl refl none))

@@ -89,7 +89,7 @@ pub fn complete(code: CoaxCode, count: usize, word: &mut [u8]) -> Answer
 // The verdict on a word. The running checks of all blocks are the checks themselves: their ones are the failing rows.
 fn judge(code: CoaxCode, count: usize, word: &[u8]) -> Verdict
     requires { ⌜ CoaxWordAsks (coaxFormat code) count (now word) ⌝ }
-    ensures { λ r. ⌜ WordVerdict (coaxCode code) count (bit (now (word .entry))) r ⌝ }
+    ensures { λ r. ⌜ WordVerdict (coaxFormat code) count (bit (now (word .entry))) r ⌝ }
 {
     let mut sums = [0u8; coax::PARITY_BYTES];
     running::coax::add_blocks(code, &mut sums, word, 0, coax::columns(code));
@@ -135,7 +135,7 @@ pub fn piece(code: CoaxCode, stream: Stream, count: usize, bytes: &[u8]) -> Outc
     ensures { λ r. ⌜ PieceTaken (coaxFormat code) count (now (bytes .entry)) stream r ⌝ }
 {
     let held = stream.held;
-    let refusal = refusals::piece(coax::payload_places(code), held, count, bytes);
+    let refusal = refusals::piece_alone(coax::payload_places(code), held, count, bytes);
     if refusal != 0 {
         return Outcome {
             answer: Answer::Refused(refusal),

@@ -8,9 +8,9 @@
 --   readBack r          the answer of a check that the number r tells, by the parts that the header names
 --   Answered P r        P holds of an answer whose number is r
 --   Judging P r         P holds of a check's answer whose number is r
---   HostEncoded ..      what birdovesta_encode promises
---   HostWord ..         what birdovesta_check_word promises
---   HostLine ..         what birdovesta_check_line promises
+--   HostEncoded a b ..  what birdovesta_encode promises, by the lists a and b
+--   HostWord a b ..     what birdovesta_check_word promises
+--   HostLine a b ..     what birdovesta_check_line promises
 --   HostCoaxEncoded k ..   what birdovesta_encode_16200 and birdovesta_encode_5940 promise, for each code k
 --   HostCoaxChecked k ..   what birdovesta_check_16200 and birdovesta_check_5940 promise
 --
@@ -81,14 +81,14 @@ pub record Judging (P : Judgement → Type 0) (r : ℕ) : Type 0 where
   pub checked : P judgement
   pub result : r ≡ judgementNumber judgement
 
-abbrev pub HostEncoded : ℕ → List ℕ → ℕ → List ℕ → ℕ → List ℕ → Type 0
-HostEncoded K u d o r o′ = Answered (λ a. Encoded fibreFormat K u d o a o′) r
+abbrev pub HostEncoded : List ℕ → List ℕ → ℕ → List ℕ → ℕ → List ℕ → ℕ → List ℕ → Type 0
+HostEncoded a b K u d o r o′ = Answered (λ x. Encoded (fibreFormat a b) K u d o x o′) r
 
-abbrev pub HostWord : ℕ → List ℕ → ℕ → Type 0
-HostWord K w = Judging (WordChecked fibreFormat K w)
+abbrev pub HostWord : List ℕ → List ℕ → ℕ → List ℕ → ℕ → Type 0
+HostWord a b K w = Judging (WordChecked (fibreFormat a b) K w)
 
-abbrev pub HostLine : ℕ → List ℕ → ℕ → ℕ → Type 0
-HostLine K l d = Judging (LineChecked fibreFormat K l d)
+abbrev pub HostLine : List ℕ → List ℕ → ℕ → List ℕ → ℕ → ℕ → Type 0
+HostLine a b K l d = Judging (LineChecked (fibreFormat a b) K l d)
 
 abbrev pub HostCoaxEncoded : CoaxCode → ℕ → List ℕ → List ℕ → ℕ → List ℕ → Type 0
 HostCoaxEncoded k K u o r o′ = Answered (λ a. CoaxEncoded k K u o a o′) r

@@ -59,25 +59,41 @@ pub extern "C" fn birdovesta_encode(
     bits: usize,
     payload: &[u8],
     delimiter: usize,
+    first: &[u8],
+    second: &[u8],
     line: &mut [u8],
 ) -> u64
-    ensures { λ r. ⌜ HostEncoded bits (now (payload .entry)) delimiter (now (line .entry)) r (now (line .exit)) ⌝ }
+    ensures { λ r. ⌜
+        HostEncoded (now (first .entry)) (now (second .entry)) bits (now (payload .entry)) delimiter
+        (now (line .entry)) r (now (line .exit))
+        ⌝ }
 {
-    answer_number(line::encode(bits, payload, delimiter, line))
+    answer_number(line::encode(bits, payload, delimiter, first, second, line))
 }
 
 // Checks a full word.
 #[no_mangle]
-pub extern "C" fn birdovesta_check_word(bits: usize, word: &[u8]) -> u64
-    ensures { λ r. ⌜ HostWord bits (now (word .entry)) r ⌝ }
+pub extern "C" fn birdovesta_check_word(
+    bits: usize,
+    word: &[u8],
+    first: &[u8],
+    second: &[u8],
+) -> u64
+    ensures { λ r. ⌜ HostWord (now (first .entry)) (now (second .entry)) bits (now (word .entry)) r ⌝ }
 {
-    judgement_number(word::check(bits, word))
+    judgement_number(word::check(bits, word, first, second))
 }
 
 // Checks a line word.
 #[no_mangle]
-pub extern "C" fn birdovesta_check_line(bits: usize, line: &[u8], delimiter: usize) -> u64
-    ensures { λ r. ⌜ HostLine bits (now (line .entry)) delimiter r ⌝ }
+pub extern "C" fn birdovesta_check_line(
+    bits: usize,
+    line: &[u8],
+    delimiter: usize,
+    first: &[u8],
+    second: &[u8],
+) -> u64
+    ensures { λ r. ⌜ HostLine (now (first .entry)) (now (second .entry)) bits (now (line .entry)) delimiter r ⌝ }
 {
-    judgement_number(line::check(bits, line, delimiter))
+    judgement_number(line::check(bits, line, delimiter, first, second))
 }

@@ -17,6 +17,7 @@ use Rattle.rules.specs.Coax.{coaxEncodeOrder, coaxWordOrder, coaxFinishOrder}
 use Rattle.rules.specs.Coax.{Counted, CoaxEncodeAsks, CoaxWordAsks, CoaxFinishAsks}
 use Rattle.rules.specs.Asked.{WholeBlocks, EncodeAsks, CompleteAsks, PieceAsks, FinishAsks, WordAsks, LineAsks}
 use Rattle.laws.proofs.Told.{not-refused, not-different}
+use Rattle.laws.proofs.Lent.{lent-not}
 
 pub not-above : (a b : ℕ) → (a < b → ⊥) → b ≤ a
 not-above a b h = elim (decLt a b) [
@@ -42,8 +43,10 @@ module _ (f : Format) where
   module _ {r : ℕ} (e : r ≡ 0) where
     pub encode-asked : (K : ℕ) (u : List ℕ) (d room : ℕ) → tells (encodeOrder f K u d room) r → EncodeAsks f K u d room
     encode-asked K u d room t =
-        let not = not-refused (encodeOrder f K u d room) tt e t in
+        let lent = lent-not f _ e t tt in
+        let not = lent .1 in
         record {
+          lists = lent .0;
           count = whole-blocks (not 1) (not 10);
           payload = packed (not 2) (not 3);
           delimiter = not-above _ d (not 4);
@@ -52,8 +55,10 @@ module _ (f : Format) where
 
     pub complete-asked : (K : ℕ) (w : List ℕ) → tells (completeOrder f K w) r → CompleteAsks f K w
     complete-asked K w t =
-        let not = not-refused (completeOrder f K w) tt e t in
+        let lent = lent-not f _ e t tt in
+        let not = lent .1 in
         record {
+          lists = lent .0;
           count = whole-blocks (not 1) (not 10);
           bytes = not-different _ _ (not 2);
           shortened = λ n s. not 8 (n, s);
@@ -61,13 +66,16 @@ module _ (f : Format) where
 
     pub piece-asked : (held b : ℕ) (s : List ℕ) → tells (pieceOrder f held b s) r → PieceAsks f held b s
     piece-asked held b s t =
-        let not = not-refused (pieceOrder f held b s) tt e t in
-        record { piece = packed (not 2) (not 3); most = not-above (f .most) _ (not 6) }
+        let lent = lent-not f _ e t tt in
+        let not = lent .1 in
+        record { lists = lent .0; piece = packed (not 2) (not 3); most = not-above (f .most) _ (not 6) }
 
     pub finish-asked : (held d room : ℕ) → tells (finishOrder f held d room) r → FinishAsks f held d room
     finish-asked held d room t =
-        let not = not-refused (finishOrder f held d room) tt e t in
+        let lent = lent-not f _ e t tt in
+        let not = lent .1 in
         record {
+          lists = lent .0;
           count = whole-blocks (not 1) (not 10);
           delimiter = not-above _ d (not 4);
           fits = not-above room _ (not 5);
@@ -75,13 +83,16 @@ module _ (f : Format) where
 
     pub word-asked : (K : ℕ) (w : List ℕ) → tells (wordOrder f K w) r → WordAsks f K w
     word-asked K w t =
-        let not = not-refused (wordOrder f K w) tt e t in
-        record { count = whole-blocks (not 1) (not 10); bytes = not-different _ _ (not 2) }
+        let lent = lent-not f _ e t tt in
+        let not = lent .1 in
+        record { lists = lent .0; count = whole-blocks (not 1) (not 10); bytes = not-different _ _ (not 2) }
 
     pub line-asked : (K : ℕ) (l : List ℕ) (d : ℕ) → tells (lineOrder f K l d) r → LineAsks f K l d
     line-asked K l d t =
-        let not = not-refused (lineOrder f K l d) tt e t in
+        let lent = lent-not f _ e t tt in
+        let not = lent .1 in
         record {
+          lists = lent .0;
           count = whole-blocks (not 1) (not 10);
           line = packed (not 2) (not 3);
           delimiter = not-above _ d (not 4);

@@ -4,8 +4,9 @@
 --   bit<                      a bit is below 2
 --   bit-past                  past the end of a list every bit is 0
 --   bit-digit                 bit t of byte i
---   bit-xor, bit-or           a bit of an exclusive or is the sum mod 2, and of an or the larger one
+--   bit-xor, bit-or, bit-and  a bit of an exclusive or is the sum mod 2, of an or the larger one, of an and the smaller
 --   bit-set, bit-set-other    a bit of a byte that was stored, and of another
+--   bits-more                 bits that are those of f below byte i are so below the next, once byte i has its eight
 --   bit-take, bit-drop        a bit of the first k bytes, and of all from byte a on
 --   bit-front, bit-back       a bit of the first of two lists that are joined, and of the second
 --   bit-part                  a bit of the k bytes from a on
@@ -14,7 +15,8 @@
 --   bit-mid                   it has p's bits there
 --   bit-below, bit-above      and those of s below and above
 --   mid-rest                  where all from a on is replaced
---   bit-zeros                 a bit of zero bytes
+--   byte-zeros                a byte of zero bytes
+--   bit-zeros, bit-ones       a bit of zero bytes, and of bytes of ones
 --   bit-cleared               a bit of s with its first k bytes cleared, of one of these
 --   numbers-same              numbers below 2 to the power n with the same n bits are equal
 --   bits-same                 lists of bytes of one length with the same bits are equal
@@ -24,11 +26,11 @@
 use mathlib.Core.Path.{_≡_, refl, sym, ap, _∙_}
 use mathlib.Core.Bool.{Bool}
 use mathlib.Core.List.{List, [], _∷_, _++_, append-nil}
-use Prim.Native.Nat.{ℕ, zero, suc, max, _+_, _-_, _*_, _/_, _%_, _^_, _≤_, _<_}
+use Prim.Native.Nat.{ℕ, zero, suc, min, max, _+_, _-_, _*_, _/_, _%_, _^_, _≤_, _<_}
 use native.Mathlib.Decide.{decLt}
 use native.Mathlib.Nat.{mod-lt, div-one, zero-div}
 use native.Mathlib.Omega.{arith}
-use lib.Bits.{bitOr, bitXor, or-shr, or-step, xor-shr, xor-mod}
+use lib.Bits.{bitAnd, bitOr, bitXor, and-shr, and-step, or-shr, or-step, xor-shr, xor-mod}
 use lib.Dec.{eqb, eqb→eq, lit<}
 use lib.ListN.{length, getD, set, take, drop, replicate, length-append, length-take, length-drop, length-replicate}
 use lib.ListN.{drop-of-length-le, List·getD-append, List·getD-eq-default, getD-replicate}
@@ -72,11 +74,24 @@ bit-xor x y t =
 pub bit-or : (x y t : ℕ) → bitOr x y / 2 ^ t % 2 ≡ max (x / 2 ^ t % 2) (y / 2 ^ t % 2)
 bit-or x y t = ap (λ (n : ℕ). n % 2) (or-shr x y t) ∙ omega (arith, or-step (x / 2 ^ t) (y / 2 ^ t))
 
+pub bit-and : (x y t : ℕ) → bitAnd x y / 2 ^ t % 2 ≡ min (x / 2 ^ t % 2) (y / 2 ^ t % 2)
+bit-and x y t = ap (λ (n : ℕ). n % 2) (and-shr x y t) ∙ omega (arith, and-step (x / 2 ^ t) (y / 2 ^ t))
+
 pub bit-set : (s : List ℕ) (i v n : ℕ) → i < length s → n / 8 ≡ i → bit (set s i v) n ≡ v / 2 ^ (n % 8) % 2
 bit-set s i v n h e = rw (e, getD-set-same)
 
 pub bit-set-other : (s : List ℕ) (i v n : ℕ) → (n / 8 ≡ i → ⊥) → bit (set s i v) n ≡ bit s n
 bit-set-other s i v n d = rw getD-set-other
+
+pub bits-more : (f : ℕ → ℕ) (s : List ℕ) (i v : ℕ) → i < length s → ((n : ℕ) → n < 8 * i → bit s n ≡ f n)
+    → ((t : ℕ) → t < 8 → v / 2 ^ t % 2 ≡ f (8 * i + t))
+    → (n : ℕ) → n < 8 * (i + 1) → bit (set s i v) n ≡ f n
+bits-more f s i v h before here n l = elim (decLt n (8 * i)) [
+  | yes k ↦ bit-set-other s i v n (omega arith) ∙ before n k
+  | no k ↦
+      let e : 8 * i + n % 8 ≡ n = omega arith in
+      bit-set s i v n h (omega arith) ∙ here (n % 8) (mod-lt n (lit< tt)) ∙ ap f e
+]
 
 -- byte a + n / 8 has bit 8 a + n
 bit-from : (s t : List ℕ) (a n : ℕ) → getD s (a + n / 8) 0 ≡ getD t (n / 8) 0 → bit s (8 * a + n) ≡ bit t n
@@ -131,11 +146,26 @@ mid-rest s p a =
     let h : length (drop a s) ≤ length s - a = rw length-drop (omega arith) in
     simp (drop-of-length-le (drop a s) h, append-nil)
 
+pub byte-zeros : (k i : ℕ) → _≡_ {A = ℕ} (getD (replicate k 0) i 0) 0
+byte-zeros zero i = refl
+byte-zeros (suc k) zero = refl
+byte-zeros (suc k) (suc i) = byte-zeros k i
+
 pub bit-zeros : (k n : ℕ) → bit (replicate k 0) n ≡ 0
 bit-zeros k n = elim (decLt (n / 8) k) [
   | yes h ↦ bit-none (replicate k 0) n (getD-replicate k (n / 8) 0 0 h)
   | no h ↦ bit-past (replicate k 0) n (omega (arith, length-replicate {A = ℕ} k 0))
 ]
+
+-- whether digit t of a byte of ones is 1
+filled : ℕ → Bool
+filled t = eqb (255 / 2 ^ t % 2) 1
+
+pub bit-ones : (k n : ℕ) → n < 8 * k → bit (replicate k 255) n ≡ 1
+unfolding filled
+bit-ones k n h =
+    rw (getD-replicate {A = ℕ} k (n / 8) 255 0 (omega arith))
+    (eqb→eq _ _ (every-at 8 filled tt (n % 8) (mod-lt n (lit< tt))))
 
 pub bit-cleared : (s : List ℕ) (k n : ℕ) → n < 8 * k → bit (replicate k 0 ++ drop k s) n ≡ 0
 bit-cleared s k n h =

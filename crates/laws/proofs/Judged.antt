@@ -1,4 +1,4 @@
--- Laws of verdicts: any two that fit are equal, and how many rows may fail. Any code, any format.
+-- Laws of verdicts: any two that fit are equal, and how many rows may fail. Any code, any format, but for the last two.
 --
 --   lowest-same     two numbers that are each the lowest are equal
 --   lowest-none     a lowest number is somewhere
@@ -7,6 +7,8 @@
 --   count-range     where a check fails, 1 row does at least, and no more than there are
 --   tail-verdict    a verdict beside one parity is the verdict beside another with the same sent bits
 --   line-same       two verdicts on one line word are equal, where its parity's bits are single
+--   word-by         a verdict on a full word of the fibre code asks for the first reordering alone
+--   tail-by         and one on the tail of a line word for the second alone
 use mathlib.Core.Path.{_≡_, refl, sym, ap, _∙_}
 use mathlib.Core.List.{List}
 use Prim.Native.Nat.{ℕ, _≤_, _<_}
@@ -15,8 +17,9 @@ use native.Mathlib.Omega.{arith}
 use lib.Dec.{eqb}
 use Rattle.rules.specs.Bits.{bit}
 use Rattle.rules.specs.Matrix.{Code, checks, check}
-use Rattle.rules.specs.Formats.{Format}
-use Rattle.rules.specs.Words.{padded, Parity}
+use Rattle.rules.specs.Lists.{Lists}
+use Rattle.rules.specs.Formats.{Format, fibreBy}
+use Rattle.rules.specs.Words.{padded, reordered, Parity, outgoing}
 use Rattle.rules.specs.Verdicts.{Lowest, Nowhere, ShortenedSet, Fails, rowFails, howMany, WordVerdict}
 use Rattle.rules.specs.Verdicts.{ParityDiffers, DelimiterDiffers, TailVerdict, LineVerdict}
 use Rattle.rules.specs.declared.Cause.the-variants as cause
@@ -77,19 +80,22 @@ stands-same : (name : Found → Verdict) (P Q : ℕ → Type 0) (v v′ : Verdic
     → v ≡ v′
 stands-same name P Q v v′ a b = a .1 ∙ ap name (found-same P Q (a .0) (b .0) (a .2) (b .2)) ∙ sym (b .1)
 
-module _ (c : Code) (K : ℕ) (w : ℕ → ℕ) where
-  word-stands : (v : Verdict) → WordVerdict c K w v → Stands (wordVerdict c w) (ShortenedSet c K w) (Fails c w) v
+module _ (f : Format) (K : ℕ) (w : ℕ → ℕ) where
+  abbrev c : Code
+  c = f .code
+
+  word-stands : (v : Verdict) → WordVerdict f K w v → Stands (wordVerdict c w) (ShortenedSet f K w) (Fails c w) v
   word-stands Accepted p = (neither, refl, p)
   word-stands (Rejected (Shortened n)) p = (first n, refl, p)
   word-stands (Rejected (Check n m)) p = (second n, ap (λ (m : ℕ). Rejected (Check n m)) (p .2), (p .0, p .1))
   word-stands (Rejected (cause.Parity n)) p = absurd p
   word-stands (Rejected (Delimiter n)) p = absurd p
 
-  pub word-same : (v v′ : Verdict) → WordVerdict c K w v → WordVerdict c K w v′ → v ≡ v′
+  pub word-same : (v v′ : Verdict) → WordVerdict f K w v → WordVerdict f K w v′ → v ≡ v′
   word-same v v′ a b =
-      stands-same (wordVerdict c w) (ShortenedSet c K w) (Fails c w) v v′ (word-stands v a) (word-stands v′ b)
+      stands-same (wordVerdict c w) (ShortenedSet f K w) (Fails c w) v v′ (word-stands v a) (word-stands v′ b)
 
-  pub count-range : (n m : ℕ) → WordVerdict c K w (Rejected (Check n m)) → (0 < m) × (m ≤ checks c)
+  pub count-range : (n m : ℕ) → WordVerdict f K w (Rejected (Check n m)) → (0 < m) × (m ≤ checks c)
   count-range n m p = (
     rw (p .2) (howMany-some (checks c) (rowFails c w) n (p .1 .0 .0) (ap (λ (x : ℕ). eqb x 1) (p .1 .0 .1))),
     rw (p .2) (howMany-below (checks c) (rowFails c w)),
@@ -118,7 +124,7 @@ module _ (f : Format) (K : ℕ) (l : List ℕ) (d : ℕ) where
       stands-same tailVerdict (ParityDiffers f K l p) (DelimiterDiffers f K l d) v v′ (tail-stands p v a)
       (tail-stands p v′ b)
 
-  module _ (p q : List ℕ) (e : (n : ℕ) → n < f .sent → bit p n ≡ bit q n) where
+  module _ (p q : List ℕ) (e : (n : ℕ) → n < f .sent → outgoing f p n ≡ outgoing f q n) where
     there : (n : ℕ) → ParityDiffers f K l p n → ParityDiffers f K l q n
     there n x = (x .0, λ g. x .1 (g ∙ sym (e n (x .0))))
 
@@ -132,8 +138,26 @@ module _ (f : Format) (K : ℕ) (l : List ℕ) (d : ℕ) where
     tail-verdict (Rejected (Shortened n)) h = h
     tail-verdict (Rejected (Check n m)) h = h
 
-  pub line-same : ((p q : List ℕ) → Parity (f .code) (padded K (bit l)) p → Parity (f .code) (padded K (bit l)) q
-      → (n : ℕ) → n < f .sent → bit p n ≡ bit q n)
+  pub line-same : ((p q : List ℕ) → Parity (f .code) (reordered f (padded K (bit l))) p
+      → Parity (f .code) (reordered f (padded K (bit l))) q → (n : ℕ) → n < f .sent → outgoing f p n ≡ outgoing f q n)
       → (v v′ : Verdict) → LineVerdict f K l d v → LineVerdict f K l d v′ → v ≡ v′
   line-same one v v′ x y =
       tail-same (y .0) v v′ (tail-verdict (x .0) (y .0) (one (x .0) (y .0) (x .1) (y .1)) v (x .2)) (y .2)
+
+-- the fibre code by a first and a second reordering, and by lists, which a verdict does not ask for
+module _ (r r′ s s′ : ℕ → ℕ) (v v′ : Lists) where
+  pub word-by : (K : ℕ) (w : ℕ → ℕ) (x : Verdict) → WordVerdict (fibreBy r s v) K w x
+      → WordVerdict (fibreBy r s′ v′) K w x
+  word-by K w Accepted h = h
+  word-by K w (Rejected (Shortened n)) h = h
+  word-by K w (Rejected (Check n m)) h = h
+  word-by K w (Rejected (cause.Parity n)) h = h
+  word-by K w (Rejected (Delimiter n)) h = h
+
+  pub tail-by : (K : ℕ) (l : List ℕ) (d : ℕ) (p : List ℕ) (x : Verdict) → TailVerdict (fibreBy r s v) K l d p x
+      → TailVerdict (fibreBy r′ s v′) K l d p x
+  tail-by K l d p Accepted h = h
+  tail-by K l d p (Rejected (Shortened n)) h = h
+  tail-by K l d p (Rejected (Check n m)) h = h
+  tail-by K l d p (Rejected (cause.Parity n)) h = h
+  tail-by K l d p (Rejected (Delimiter n)) h = h

@@ -7,6 +7,8 @@ pub mod Around
 pub mod Columns
 pub mod Running
 pub mod Told
+pub mod Reorderings
+pub mod Lent
 pub mod Judged
 pub mod Asked
 pub mod Tails

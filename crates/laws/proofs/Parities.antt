@@ -15,8 +15,10 @@
 --   moved-bit           b bits that were added to bytes of zeros, from place 0 on, are these bits
 --   moved-past          after them all is 0
 --   moved-packed        and they are just the bytes of these bits, where they are as many as it takes
---   parity-as           a parity of K bits is one of any equal K bits
---   parity-filled       and a parity of bits is one of K of them, where these fill the payload places
+--   parity-as           a parity of a payload is one of any with the same payload places
+--   padded-same         payloads are padded alike, where their K bits are equal
+--   parity-filled       a parity of bits is one of K of them, where these fill the payload places
+--   own-same            all bits of a parity with given own checks are single, as those after them are 0
 --   parity-one          the bytes of a parity with given own checks are single
 --   payload-parity      a parity whose own checks are the payload's makes every check hold
 --   payload-own         a parity that makes every check hold has the payload's checks as its own
@@ -126,6 +128,9 @@ module _ (b : ℕ) {x : ℕ → ℕ} (below : (n : ℕ) → x n < 2) {s t : List
   pub moved-packed : length s ≡ need b → Packed b t
   moved-packed e = packed-run b x t (a .length-same ∙ e) (λ n h. moved-each n)
 
+pub padded-same : (K : ℕ) {x y : ℕ → ℕ} → ((n : ℕ) → n < K → x n ≡ y n) → (n : ℕ) → padded K x n ≡ padded K y n
+padded-same K {x} {y} e = run-same K x zeros y zeros e (λ n. refl)
+
 module _ (c : Code) where
   abbrev pub payloadChecks : (ℕ → ℕ) → ℕ → ℕ
   payloadChecks x n = check c n (run (payloadPlaces c) x zeros)
@@ -153,26 +158,18 @@ module _ (c : Code) where
   payload-found x y k s p added same =
       payload-parity x s p (λ n h. checks-again c y k added n ∙ check-same c n y (run (payloadPlaces c) x zeros) same)
 
-  pub parity-as : (K : ℕ) (x y : ℕ → ℕ) (p : List ℕ) → ((n : ℕ) → n < K → x n ≡ y n) → Parity c (padded K x) p
-      → Parity c (padded K y) p
-  parity-as K x y p e h = record {
+  pub parity-as : {x y : ℕ → ℕ} {p : List ℕ} → ((n : ℕ) → n < payloadPlaces c → x n ≡ y n) → Parity c x p
+      → Parity c y p
+  parity-as {x} {y} {p} e h = record {
     packed = h .packed;
     all-hold = λ n k.
-        check-same c n (fullWord c (padded K y) p) (fullWord c (padded K x) p)
-        (λ m l. run-same (payloadPlaces c) (padded K y) (bit p) (padded K x) (bit p)
-        (λ i j. run-same K y zeros x zeros (λ i j. sym (e i j)) (λ i. refl) i) (λ i. refl) m)
+        check-same c n (fullWord c y p) (fullWord c x p)
+        (λ m l. run-same (payloadPlaces c) y (bit p) x (bit p) (λ i j. sym (e i j)) (λ i. refl) m)
         ∙ h .all-hold n k;
   }
 
   pub parity-filled : (K : ℕ) {x : ℕ → ℕ} {p : List ℕ} → payloadPlaces c ≤ K → Parity c x p → Parity c (padded K x) p
-  parity-filled K {x} {p} most h = record {
-    packed = h .packed;
-    all-hold = λ n l.
-        check-same c n (fullWord c (padded K x) p) (fullWord c x p)
-        (λ m i. run-same (payloadPlaces c) (padded K x) (bit p) x (bit p) (λ j k. run-low K x zeros j (omega arith))
-        (λ j. refl) m)
-        ∙ h .all-hold n l;
-  }
+  parity-filled K {x} most = parity-as (λ n h. sym (run-low K x zeros n (omega arith)))
 
   -- the payload's checks, as bytes
   checkBytes : (ℕ → ℕ) → List ℕ
@@ -187,9 +184,15 @@ module _ (c : Code) where
   bytes-own x p = payload-own x (checkBytes x) p (bytes-checks x)
 
   module _ (one : OneParity c) where
+    pub own-same : (s p q : List ℕ) → OwnChecks c s p → OwnChecks c s q → (n : ℕ) → bit p n ≡ bit q n
+    own-same s p q own-p own-q n = elim (decLt n (checks c)) [
+      | yes l ↦ one .own-bits-one s p q own-p own-q n l
+      | no l ↦ packed-clear (own-p .packed) n (omega arith) ∙ sym (packed-clear (own-q .packed) n (omega arith))
+    ]
+
     pub parity-one : (s p q : List ℕ) → Bytes p → Bytes q → OwnChecks c s p → OwnChecks c s q → p ≡ q
     parity-one s p q bytes-p bytes-q own-p own-q =
-        packed-same (own-p .packed) (own-q .packed) bytes-p bytes-q (one .own-bits-one s p q own-p own-q)
+        packed-same (own-p .packed) (own-q .packed) bytes-p bytes-q (λ n h. own-same s p q own-p own-q n)
 
     pub payload-exists : (x : ℕ → ℕ) → (p : List ℕ) × Bytes p × Parity c x p
     payload-exists x =
@@ -197,9 +200,8 @@ module _ (c : Code) where
         (p .0, p .1, payload-parity x (checkBytes x) (p .0) (bytes-checks x) (p .2))
 
     module _ (x : ℕ → ℕ) (p q : List ℕ) where
-      pub parity-bits-one : Parity c x p → Parity c x q → (n : ℕ) → n < checks c → bit p n ≡ bit q n
-      parity-bits-one parity-p parity-q =
-          one .own-bits-one (checkBytes x) p q (bytes-own x p parity-p) (bytes-own x q parity-q)
+      pub parity-bits-one : Parity c x p → Parity c x q → (n : ℕ) → bit p n ≡ bit q n
+      parity-bits-one parity-p parity-q = own-same (checkBytes x) p q (bytes-own x p parity-p) (bytes-own x q parity-q)
 
       pub payload-one : Bytes p → Bytes q → Parity c x p → Parity c x q → p ≡ q
       payload-one bytes-p bytes-q parity-p parity-q =

@@ -6,6 +6,8 @@
 --                     none, or test a rest, with what the first one tells
 --   told-tested       then the first of xs that is not 0 is what the order tells
 --   told-left         where none is told, the first refusal does not apply, and none of the rest is told
+--   told-more         what an order tells is told where others follow it
+--   told-next         where it tells none, what those that follow tell is told
 --   refusal-of o k    when the refusal numbered k of the order o applies
 --   numbersPass f o   every number of the order o passes the test f
 --   told-passes       so does the number that it tells, if 0 does
@@ -19,7 +21,7 @@
 use mathlib.Core.Path.{_≡_, refl, sym, ap, subst, _∙_}
 use mathlib.Core.Bool.{Bool, true, false, cond}
 use mathlib.Core.Logic.{inl, inr, ⊎-elim}
-use mathlib.Core.List.{List, [], _∷_}
+use mathlib.Core.List.{List, [], _∷_, _++_}
 use Prim.Native.Nat.{ℕ, _<_}
 use native.Mathlib.Decide.{ℕ-discrete}
 use native.Mathlib.Omega.{arith}
@@ -71,6 +73,17 @@ rest-numbered t o h = both-right (ltb 0 (t .number)) (numbered o) h
 pub told-left : (t : Refusal) (o p : List Refusal) → T (numbered (t ∷ o)) → {r : ℕ} → r ≡ 0 → tells (t ∷ p) r
     → (t .applies → ⊥) × tells p r
 told-left t o p h e x = ⊎-elim (λ a. absurd (omega (arith, a .1, first-numbered t o h))) (λ b. b) x
+
+pub told-more : (o p : List Refusal) (r : ℕ) → (r ≡ 0 → ⊥) → tells o r → tells (o ++ p) r
+told-more [] p r d x = absurd (d x)
+told-more (t ∷ o) p r d x = ⊎-elim inl (λ b. inr (b .0, told-more o p r d (b .1))) x
+
+pub told-next : (o p : List Refusal) → T (numbered o) → {r : ℕ} → r ≡ 0 → tells o r → (s : ℕ) → tells p s
+    → tells (o ++ p) s
+told-next [] p h e x s y = y
+told-next (t ∷ o) p h e x s y =
+    let l = told-left t o o h e x in
+    inr (l .0, told-next o p (rest-numbered t o h) e (l .1) s y)
 
 pub data Tested : List Refusal → List ℕ → Type 1 where
   none : Tested [] []

@@ -45,22 +45,39 @@ fn stream_of(held: usize, checks: &[u8]) -> Stream
 
 // Completes a full word.
 #[no_mangle]
-pub extern "C" fn measured_complete(count: usize, word: &mut [u8]) -> u64
-    ensures { λ r. ⌜ Complete count (now (word .entry)) r (now (word .exit)) ⌝ }
+pub extern "C" fn measured_complete(
+    count: usize,
+    word: &mut [u8],
+    first: &[u8],
+    second: &[u8],
+) -> u64
+    ensures { λ r. ⌜
+        Complete (fibreFormat (now (first .entry)) (now (second .entry))) count (now (word .entry)) r (now (word .exit))
+        ⌝ }
 {
-    host::answer_number(word::complete(count, word))
+    host::answer_number(word::complete(count, word, first, second))
 }
 
 // Takes a piece.
 #[no_mangle]
-pub extern "C" fn measured_piece(held: usize, checks: &mut [u8], count: usize, bytes: &[u8]) -> u64
-    ensures { λ r. ⌜ Piece fibreFormat held count (now (bytes .entry)) (now (checks .entry)) r (now (checks .exit)) ⌝ }
+pub extern "C" fn measured_piece(
+    held: usize,
+    checks: &mut [u8],
+    count: usize,
+    bytes: &[u8],
+    first: &[u8],
+    second: &[u8],
+) -> u64
+    ensures { λ r. ⌜
+        Piece (fibreFormat (now (first .entry)) (now (second .entry))) held count (now (bytes .entry))
+        (now (checks .entry)) r (now (checks .exit))
+        ⌝ }
 {
     if checks.len() != rules::STREAM_BYTES {
         return NO_CHECKS;
     }
     let stream = stream_of(held, checks);
-    let outcome = stream::piece(stream, count, bytes);
+    let outcome = stream::piece(stream, count, bytes, first, second);
     hand_back(outcome, checks)
 }
 
@@ -70,15 +87,19 @@ pub extern "C" fn measured_finish(
     held: usize,
     checks: &mut [u8],
     delimiter: usize,
+    first: &[u8],
+    second: &[u8],
     tail: &mut [u8],
 ) -> u64
-    ensures { λ r.
-        ⌜ Finish held delimiter (now (checks .entry)) (now (tail .entry)) r (now (checks .exit)) (now (tail .exit)) ⌝ }
+    ensures { λ r. ⌜
+        Finish (fibreFormat (now (first .entry)) (now (second .entry))) held delimiter (now (checks .entry))
+        (now (tail .entry)) r (now (checks .exit)) (now (tail .exit))
+        ⌝ }
 {
     if checks.len() != rules::STREAM_BYTES {
         return NO_CHECKS;
     }
     let stream = stream_of(held, checks);
-    let outcome = stream::finish(stream, delimiter, tail);
+    let outcome = stream::finish(stream, delimiter, first, second, tail);
     hand_back(outcome, checks)
 }

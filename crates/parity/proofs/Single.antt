@@ -36,7 +36,7 @@ pub payload-exists : (x : ℕ → ℕ) → (p : List ℕ) × Bytes p × Parity f
 payload-exists = parities.payload-exists fibre fibre-one
 
 module _ (x : ℕ → ℕ) (p q : List ℕ) where
-  pub parity-bits-one : Parity fibre x p → Parity fibre x q → (n : ℕ) → n < checks fibre → bit p n ≡ bit q n
+  pub parity-bits-one : Parity fibre x p → Parity fibre x q → (n : ℕ) → bit p n ≡ bit q n
   parity-bits-one = parities.parity-bits-one fibre fibre-one x p q
 
   pub payload-one : Bytes p → Bytes q → Parity fibre x p → Parity fibre x q → p ≡ q

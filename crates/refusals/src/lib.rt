@@ -1,7 +1,8 @@
-// Paper 01, 'Refusal numbers', and W4 of paper 02.
+// Paper 01, 'Refusal numbers', and W2 and W4 of paper 02.
 // A test for each kind of refusal, which answers its number or 0, and each operation's order of tests. A test is given
-// its limits. None needs an earlier one: where that tells a refusal, a later test may answer anything, and no more.
-// The orders here are the fibre code's, and a piece's for any code; those of the coax codes have a module.
+// its limits. None needs an earlier one: where that tells a refusal, a later test may answer anything, and no more. Only
+// refusal 8 is tested after the others: its places are seen through the first list, which has to be one.
+// The orders here are the fibre code's, and what a piece asks of any code; those of the coax codes have a module.
 pub mod coax;
 
 ghost use mathlib.Core.Path.{_≡_};
@@ -10,10 +11,14 @@ ghost use mathlib.Core.List.{[], _∷_};
 ghost use Prim.Native.Nat.{ℕ, _+_, _≤_, _<_};
 ghost use lib.ListN.{length};
 ghost use Rattle.rules.specs.Bits.{bit, need};
+ghost use Rattle.rules.specs.Lists.{Listed};
+ghost use Rattle.rules.specs.Matrix.{places, checks, payloadPlaces};
+ghost use Rattle.rules.specs.Table.{fibre};
 ghost use Rattle.rules.specs.Formats.{Format, fibreFormat};
-ghost use Rattle.rules.specs.Refusals.{refusal, tells, unusedSet};
+ghost use Rattle.rules.specs.Refusals.{refusal, tells, unusedSet, someShortened, BadList, ofPiece};
 ghost use Rattle.rules.specs.Refusals.{encodeOrder, pieceOrder, finishOrder, completeOrder, wordOrder, lineOrder};
-ghost use Rattle.rules.specs.Terms.{FirstTold};
+ghost use Rattle.rules.specs.Terms.{FirstTold, byFirst};
+ghost use Rattle.lists.specs.Picked.{Tested};
 use rules::fibre;
 
 // The first of an order's numbers that is not 0; 0 where all are.
@@ -90,21 +95,47 @@ fn above_with(held: usize, count: usize, most: usize) -> usize
     0
 }
 
-// 8: a shortened place, from `count` on and before `end`, is 1. The word's bytes have all these places.
-fn shortened_set(count: usize, word: &[u8], end: usize) -> usize
+// 8: a shortened place is 1. The word's bytes have all the places, and the first list is one.
+fn shortened_set(count: usize, word: &[u8], first: &[u8]) -> usize
+    requires { ⌜
+        (count ≤ payloadPlaces fibre) × (length (now word) ≡ need (places fibre))
+        × Listed (payloadPlaces fibre) (now first)
+        ⌝ }
+    ensures { λ r. ⌜ tells (someShortened (byFirst (now (first .entry))) count (now (word .entry)) ∷ []) r ⌝ }
+{
+    if lists::first_shortened(count, word, first) < fibre::PAYLOAD_PLACES {
+        return 8;
+    }
+    0
+}
+
+// Whether a list is one of the payload places, and whether one is of the parity places: each with marks of its own size.
+fn is_first(first: &[u8]) -> bool
+    ensures { λ r. ⌜ Tested (payloadPlaces fibre) (now (first .entry)) r ⌝ }
+{
+    let mut marks = [0u8; fibre::PAYLOAD_PLACES + 1];
+    lists::reorders(first, fibre::PAYLOAD_PLACES, &mut marks)
+}
+
+fn is_second(second: &[u8]) -> bool
+    ensures { λ r. ⌜ Tested (checks fibre) (now (second .entry)) r ⌝ }
+{
+    let mut marks = [0u8; fibre::CHECKS + 1];
+    lists::reorders(second, fibre::CHECKS, &mut marks)
+}
+
+// 16: a list has another length, or is no reordering of its places.
+fn bad_lists(first: &[u8], second: &[u8]) -> usize
     ensures { λ r. ⌜
-        (need end ≤ length (now (word .entry))
-        → tells (refusal 8 ((n : ℕ) × ((count ≤ n) × (n < end) × (bit (now (word .entry)) n ≡ 1))) ∷ []) r)
+        tells (refusal 16 (BadList (payloadPlaces fibre) (now (first .entry))
+        ⊎ BadList (checks fibre) (now (second .entry))) ∷ []) r
         ⌝ }
 {
-    if word.len() < bits::needed(end) {
-        return 0;
+    if !is_first(first) {
+        return 16;
     }
-    if end <= count {
-        return 0;
-    }
-    if bits::first_set(word, count, end) < end {
-        return 8;
+    if !is_second(second) {
+        return 16;
     }
     0
 }
@@ -119,13 +150,24 @@ fn lowered(count: usize, most: usize) -> usize
     most
 }
 
-// Encode: 1, 10, 2, 3, 4, 5.
-pub fn encode(count: usize, payload: &[u8], delimiter: usize, room: usize) -> usize
-    ensures { λ r. ⌜ tells (encodeOrder fibreFormat count (now (payload .entry)) delimiter room) r ⌝ }
+// Encode: 16, 1, 10, 2, 3, 4, 5.
+pub fn encode(
+    count: usize,
+    payload: &[u8],
+    delimiter: usize,
+    first: &[u8],
+    second: &[u8],
+    room: usize,
+) -> usize
+    ensures { λ r. ⌜
+        tells (encodeOrder (fibreFormat (now (first .entry)) (now (second .entry))) count (now (payload .entry))
+        delimiter room) r
+        ⌝ }
 {
     let line = lowered(count, fibre::PAYLOAD_MOST) + fibre::TAIL_BITS;
     first_told(
         &[
+            bad_lists(first, second),
             outside(count, fibre::PAYLOAD_LEAST, fibre::PAYLOAD_MOST),
             differs(count % fibre::DATA_BLOCK, 0, 10),
             differs(payload.len(), bits::needed(count), 2),
@@ -136,9 +178,9 @@ pub fn encode(count: usize, payload: &[u8], delimiter: usize, room: usize) -> us
     )
 }
 
-// Piece: 7, 2, 3, 6. Of any code, by its most payload bits.
-pub fn piece(most: usize, held: usize, count: usize, bytes: &[u8]) -> usize
-    ensures { λ r. ⌜ ((f : Format) → f .most ≡ most → tells (pieceOrder f held count (now (bytes .entry))) r) ⌝ }
+// What a piece asks of any code, by its most payload bits: 7, 2, 3, 6.
+pub fn piece_alone(most: usize, held: usize, count: usize, bytes: &[u8]) -> usize
+    ensures { λ r. ⌜ ((f : Format) → f .most ≡ most → tells (ofPiece f held count (now (bytes .entry))) r) ⌝ }
 {
     first_told(
         &[
@@ -150,12 +192,28 @@ pub fn piece(most: usize, held: usize, count: usize, bytes: &[u8]) -> usize
     )
 }
 
-// Finish: 7, 1, 10, 4, 5.
-pub fn finish(held: usize, delimiter: usize, room: usize) -> usize
-    ensures { λ r. ⌜ tells (finishOrder fibreFormat held delimiter room) r ⌝ }
+// Piece: 16, 7, 2, 3, 6.
+pub fn piece(held: usize, count: usize, bytes: &[u8], first: &[u8], second: &[u8]) -> usize
+    ensures { λ r. ⌜
+        tells (pieceOrder (fibreFormat (now (first .entry)) (now (second .entry))) held count (now (bytes .entry))) r
+        ⌝ }
+{
+    let told = bad_lists(first, second);
+    if told != 0 {
+        return told;
+    }
+    piece_alone(fibre::PAYLOAD_MOST, held, count, bytes)
+}
+
+// Finish: 16, 7, 1, 10, 4, 5.
+pub fn finish(held: usize, delimiter: usize, first: &[u8], second: &[u8], room: usize) -> usize
+    ensures { λ r. ⌜
+        tells (finishOrder (fibreFormat (now (first .entry)) (now (second .entry))) held delimiter room) r
+        ⌝ }
 {
     first_told(
         &[
+            bad_lists(first, second),
             above(held, fibre::PAYLOAD_MOST, 7),
             outside(held, fibre::PAYLOAD_LEAST, fibre::PAYLOAD_MOST),
             differs(held % fibre::DATA_BLOCK, 0, 10),
@@ -165,26 +223,15 @@ pub fn finish(held: usize, delimiter: usize, room: usize) -> usize
     )
 }
 
-// Complete: 1, 10, 2, 8.
-pub fn complete(count: usize, word: &[u8]) -> usize
-    ensures { λ r. ⌜ tells (completeOrder fibreFormat count (now (word .entry))) r ⌝ }
+// Full-word check: 16, 1, 10, 2.
+pub fn check_word(count: usize, word: &[u8], first: &[u8], second: &[u8]) -> usize
+    ensures { λ r. ⌜
+        tells (wordOrder (fibreFormat (now (first .entry)) (now (second .entry))) count (now (word .entry))) r
+        ⌝ }
 {
     first_told(
         &[
-            outside(count, fibre::PAYLOAD_LEAST, fibre::PAYLOAD_MOST),
-            differs(count % fibre::DATA_BLOCK, 0, 10),
-            differs(word.len(), bits::needed(fibre::PLACES), 2),
-            shortened_set(count, word, fibre::PAYLOAD_PLACES),
-        ],
-    )
-}
-
-// Full-word check: 1, 10, 2.
-pub fn check_word(count: usize, word: &[u8]) -> usize
-    ensures { λ r. ⌜ tells (wordOrder fibreFormat count (now (word .entry))) r ⌝ }
-{
-    first_told(
-        &[
+            bad_lists(first, second),
             outside(count, fibre::PAYLOAD_LEAST, fibre::PAYLOAD_MOST),
             differs(count % fibre::DATA_BLOCK, 0, 10),
             differs(word.len(), bits::needed(fibre::PLACES), 2),
@@ -192,13 +239,29 @@ pub fn check_word(count: usize, word: &[u8]) -> usize
     )
 }
 
-// Line check: 1, 10, 2, 3, 4.
-pub fn check_line(count: usize, line: &[u8], delimiter: usize) -> usize
-    ensures { λ r. ⌜ tells (lineOrder fibreFormat count (now (line .entry)) delimiter) r ⌝ }
+// Complete: 16, 1, 10, 2, as the full-word check; then 8.
+pub fn complete(count: usize, word: &[u8], first: &[u8], second: &[u8]) -> usize
+    ensures { λ r. ⌜
+        tells (completeOrder (fibreFormat (now (first .entry)) (now (second .entry))) count (now (word .entry))) r
+        ⌝ }
+{
+    let told = check_word(count, word, first, second);
+    if told != 0 {
+        return told;
+    }
+    shortened_set(count, word, first)
+}
+
+// Line check: 16, 1, 10, 2, 3, 4.
+pub fn check_line(count: usize, line: &[u8], delimiter: usize, first: &[u8], second: &[u8]) -> usize
+    ensures { λ r. ⌜
+        tells (lineOrder (fibreFormat (now (first .entry)) (now (second .entry))) count (now (line .entry)) delimiter) r
+        ⌝ }
 {
     let all = lowered(count, fibre::PAYLOAD_MOST) + fibre::TAIL_BITS;
     first_told(
         &[
+            bad_lists(first, second),
             outside(count, fibre::PAYLOAD_LEAST, fibre::PAYLOAD_MOST),
             differs(count % fibre::DATA_BLOCK, 0, 10),
             differs(line.len(), bits::needed(all), 2),

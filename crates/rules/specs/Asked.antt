@@ -1,5 +1,6 @@
--- Paper 01, 'Refusal numbers', and W4 of paper 02, read the other way round: what each operation asks of its inputs.
+-- Paper 01, 'Refusal numbers', and W2 and W4 of paper 02, read the other way round: what each operation asks of its inputs.
 --
+--   ListsFit f                 each list that is lent is a reordering of its places
 --   WholeBlocks f K            K bits are whole data blocks, from the least to the most
 --   EncodeAsks f K u d room    encode a payload u of K bits, with the delimiter d, to so many bytes
 --   CompleteAsks f K w         complete the full word w
@@ -14,10 +15,14 @@ use mathlib.Core.List.{List}
 use Prim.Native.Nat.{ℕ, _+_, _%_, _≤_}
 use lib.ListN.{length}
 use Rattle.rules.specs.Bits.{bit, need, Packed}
-use Rattle.rules.specs.Matrix.{places}
+use Rattle.rules.specs.Matrix.{places, checks, payloadPlaces}
+use Rattle.rules.specs.Lists.{AreListed}
 use Rattle.rules.specs.Formats.{Format, delimiterMost}
 use Rattle.rules.specs.Words.{lineBits, tailBits}
 use Rattle.rules.specs.Verdicts.{Nowhere, ShortenedSet}
+
+abbrev pub ListsFit : Format → Type 0
+ListsFit f = AreListed (payloadPlaces (f .code)) (checks (f .code)) (f .lists)
 
 pub record WholeBlocks (f : Format) (K : ℕ) : Type 0 where
   pub least : f .least ≤ K
@@ -25,30 +30,36 @@ pub record WholeBlocks (f : Format) (K : ℕ) : Type 0 where
   pub whole : K % f .dataBlock ≡ 0
 
 pub record EncodeAsks (f : Format) (K : ℕ) (u : List ℕ) (d room : ℕ) : Type 0 where
+  pub lists : ListsFit f
   pub count : WholeBlocks f K
   pub payload : Packed K u
   pub delimiter : d ≤ delimiterMost f
   pub fits : need (lineBits f K) ≤ room
 
 pub record CompleteAsks (f : Format) (K : ℕ) (w : List ℕ) : Type 0 where
+  pub lists : ListsFit f
   pub count : WholeBlocks f K
   pub bytes : length w ≡ need (places (f .code))
-  pub shortened : Nowhere (ShortenedSet (f .code) K (bit w))
+  pub shortened : Nowhere (ShortenedSet f K (bit w))
 
 pub record PieceAsks (f : Format) (held b : ℕ) (s : List ℕ) : Type 0 where
+  pub lists : ListsFit f
   pub piece : Packed b s
   pub most : held + b ≤ f .most
 
 pub record FinishAsks (f : Format) (held d room : ℕ) : Type 0 where
+  pub lists : ListsFit f
   pub count : WholeBlocks f held
   pub delimiter : d ≤ delimiterMost f
   pub fits : need (tailBits f) ≤ room
 
 pub record WordAsks (f : Format) (K : ℕ) (w : List ℕ) : Type 0 where
+  pub lists : ListsFit f
   pub count : WholeBlocks f K
   pub bytes : length w ≡ need (places (f .code))
 
 pub record LineAsks (f : Format) (K : ℕ) (l : List ℕ) (d : ℕ) : Type 0 where
+  pub lists : ListsFit f
   pub count : WholeBlocks f K
   pub line : Packed (lineBits f K) l
   pub delimiter : d ≤ delimiterMost f

@@ -1,5 +1,5 @@
 -- W8 of paper 02: the two coax codes, by Tables 101-3 and 101-4 of source document 001. Nothing is shortened and
--- nothing punctured, there is no delimiter, and a payload fills the payload places.
+-- nothing punctured, there are no lists and no delimiter, and a payload fills the payload places.
 --
 --   coaxCode k               the code k: blocks of 360 or of 180, five block rows, 45 or 33 block columns
 --                            (coaxSize, coaxColumns), and its table's lines (coaxLines)
@@ -23,6 +23,7 @@ use lib.ListN.{length}
 use Rattle.rules.specs.Bits.{bit, need, Packed}
 use Rattle.rules.specs.Matrix.{Code, places, checks, payloadPlaces}
 use Rattle.rules.specs.CoaxTables.{longLines, shortLines}
+use Rattle.rules.specs.Lists.{none}
 use Rattle.rules.specs.Formats.{Format}
 use Rattle.rules.specs.Words.{lineBits, tailBits}
 use Rattle.rules.specs.Verdicts.{WordVerdict}
@@ -55,6 +56,9 @@ abbrev pub coaxFormat : CoaxCode → Format
 coaxFormat k =
     record {
       code = coaxCode k;
+      first = λ t. t;
+      second = λ t. t;
+      lists = none;
       least = payloadPlaces (coaxCode k);
       most = payloadPlaces (coaxCode k);
       dataBlock = 1;
@@ -100,7 +104,7 @@ CoaxCompleted k K w a w′ =
     Promise (coaxWordOrder (coaxFormat k) K w) a (Completion (coaxCode k) w w′) (w′ ≡ w)
 
 abbrev pub CoaxChecked : CoaxCode → ℕ → List ℕ → Judgement → Type 0
-CoaxChecked k K w = Checked (coaxWordOrder (coaxFormat k) K w) (WordVerdict (coaxCode k) K (bit w))
+CoaxChecked k K w = Checked (coaxWordOrder (coaxFormat k) K w) (WordVerdict (coaxFormat k) K (bit w))
 
 abbrev pub CoaxFinished : CoaxCode → Stream → List ℕ → Outcome → List ℕ → Type 0
 CoaxFinished k t o r o′ =

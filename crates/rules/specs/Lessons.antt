@@ -1,10 +1,10 @@
 -- Paper 01, 'Lesson sheet', with the payload counts of W4 and the failing rows of W3 of paper 02.
 -- The ten lessons marked P, in one table, and what it is for a lesson to be right. Those of the coax codes, of W8.
 --
---   place p ns      a lesson: place p is in the checks ns
+--   place p ns      a lesson: the inner place p is in the checks ns
 --   word w K v      a lesson: the full word w with payload count K has the verdict v
---   Right c l       what the lesson l claims of the code c, by the definitions
---   AllRight c ls   the single claim: each lesson of a list is right
+--   Right f l       what the lesson l claims of the code, by the definitions
+--   AllRight f ls   the single claim: each lesson of a list is right
 --   lessons         the ten, of the fibre code
 --   coaxLessons k   those of the coax code k: its first place, its last one, its first parity place, and two words
 --
@@ -13,7 +13,8 @@ use mathlib.Core.Path.{_≡_}
 use mathlib.Core.List.{List, [], _∷_}
 use Prim.Native.Nat.{ℕ}
 use Rattle.rules.specs.Bits.{zeros, only}
-use Rattle.rules.specs.Matrix.{Code, checksOf}
+use Rattle.rules.specs.Matrix.{checksOf}
+use Rattle.rules.specs.Formats.{Format}
 use Rattle.rules.specs.Verdicts.{WordVerdict}
 use Rattle.rules.specs.declared.CoaxCode.{CoaxCode}
 use Rattle.rules.specs.declared.CoaxCode.the-variants.{Long, Short}
@@ -25,13 +26,13 @@ pub data Lesson : Type 0 where
   place : ℕ → List ℕ → Lesson
   word : (ℕ → ℕ) → ℕ → Verdict → Lesson
 
-abbrev pub Right : Code → Lesson → Type 0
-Right c (place p ns) = checksOf c p ≡ ns
-Right c (word w K v) = WordVerdict c K w v
+abbrev pub Right : Format → Lesson → Type 0
+Right f (place p ns) = checksOf (f .code) p ≡ ns
+Right f (word w K v) = WordVerdict f K w v
 
-abbrev pub AllRight : Code → List Lesson → Type 0
-AllRight c [] = Unit
-AllRight c (l ∷ ls) = Right c l × AllRight c ls
+abbrev pub AllRight : Format → List Lesson → Type 0
+AllRight f [] = Unit
+AllRight f (l ∷ ls) = Right f l × AllRight f ls
 
 abbrev pub lessons : List Lesson
 lessons =

@@ -26,7 +26,7 @@ use lib.ListN.{length, take}
 use Rattle.rules.specs.Bits.{bit, Written}
 use Rattle.rules.specs.Matrix.{Code, payloadPlaces}
 use Rattle.rules.specs.Formats.{Format}
-use Rattle.rules.specs.Words.{padded, Parity, OwnChecks, tail, tailBits, lineWord, lineBits}
+use Rattle.rules.specs.Words.{padded, reordered, Parity, OwnChecks, tail, tailBits, lineWord, lineBits}
 use Rattle.rules.specs.Verdicts.{WordVerdict, LineVerdict}
 use Rattle.rules.specs.Streams.{fresh, Fed}
 use Rattle.rules.specs.Refusals.{Refusal, tells}
@@ -70,7 +70,8 @@ Completion c w w′ = (p : List ℕ) × Parity c (bit w) p × (w′ ≡ take (pa
 
 abbrev pub LineWritten : Format → ℕ → List ℕ → ℕ → List ℕ → List ℕ → Type 0
 LineWritten f K u d o o′ =
-    (p : List ℕ) × Parity (f .code) (padded K (bit u)) p × Written (lineBits f K) (lineWord f K (bit u) p d) o o′
+    (p : List ℕ) × Parity (f .code) (reordered f (padded K (bit u))) p
+    × Written (lineBits f K) (lineWord f K (bit u) p d) o o′
 
 abbrev pub TailWritten : Format → List ℕ → ℕ → List ℕ → List ℕ → Type 0
 TailWritten f s d o o′ = (p : List ℕ) × OwnChecks (f .code) s p × Written (tailBits f) (tail f p d) o o′
@@ -79,7 +80,7 @@ abbrev pub Completed : Format → ℕ → List ℕ → Answer → List ℕ → T
 Completed f K w a w′ = Promise (completeOrder f K w) a (Completion (f .code) w w′) (w′ ≡ w)
 
 abbrev pub WordChecked : Format → ℕ → List ℕ → Judgement → Type 0
-WordChecked f K w = Checked (wordOrder f K w) (WordVerdict (f .code) K (bit w))
+WordChecked f K w = Checked (wordOrder f K w) (WordVerdict f K (bit w))
 
 abbrev pub Encoded : Format → ℕ → List ℕ → ℕ → List ℕ → Answer → List ℕ → Type 0
 Encoded f K u d o a o′ = Promise (encodeOrder f K u d (length o)) a (LineWritten f K u d o o′) (o′ ≡ o)
@@ -89,7 +90,7 @@ LineChecked f K l d = Checked (lineOrder f K l d) (LineVerdict f K l d)
 
 abbrev pub PieceTaken : Format → ℕ → List ℕ → Stream → Outcome → Type 0
 PieceTaken f b s t r =
-    Promise (pieceOrder f (t .held) b s) (r .answer) (Fed (f .code) b s t (r .stream)) (r .stream ≡ t)
+    Promise (pieceOrder f (t .held) b s) (r .answer) (Fed f b s t (r .stream)) (r .stream ≡ t)
 
 abbrev pub Finished : Format → ℕ → Stream → List ℕ → Outcome → List ℕ → Type 0
 Finished f d t o r o′ =

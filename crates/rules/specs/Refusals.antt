@@ -1,20 +1,24 @@
--- Paper 01, 'Refusal numbers', and W4 of paper 02: when each is given, and the order of each operation. 0 stands for no
+-- Paper 01, 'Refusal numbers', and W2 and W4 of paper 02: when each is given, and the order of each operation. 0 stands for no
 -- refusal. A code's format has the limits.
 --
 --   Refusal      its number, and when it applies
 --   refusal k A  the refusal numbered k, which applies where A holds
 --   tells o r    r is the number of the first refusal of the order o that applies, or 0 where none does
+--   BadList n l  the list l has another length than n entries take, or these are no reordering of n places
+--   ofLists f    the refusal of the lists that are lent, 16; where none are, none
 --   ofCount f K  the refusals of a payload's count: 1, 10
+--   ofPiece f .. the refusals of a piece alone: 7, 2, 3, 6
 --   xOrder       the order of operation x
 --
 -- Believe this file beside the paper; nothing here is proved.
 use mathlib.Core.Path.{_≡_}
 use mathlib.Core.Logic.{_⊎_}
 use mathlib.Core.List.{List, [], _∷_, _++_}
-use Prim.Native.Nat.{ℕ, _+_, _%_, _<_}
+use Prim.Native.Nat.{ℕ, _+_, _*_, _%_, _<_}
 use lib.ListN.{length}
 use Rattle.rules.specs.Bits.{bit, need, UnusedSet}
-use Rattle.rules.specs.Matrix.{Code, places}
+use Rattle.rules.specs.Matrix.{places, checks, payloadPlaces}
+use Rattle.rules.specs.Lists.{Reordering, entryOf, Lists, none, pair}
 use Rattle.rules.specs.Formats.{Format, delimiterMost}
 use Rattle.rules.specs.Words.{lineBits, tailBits}
 use Rattle.rules.specs.Verdicts.{ShortenedSet}
@@ -59,37 +63,53 @@ abbrev pub tooMany : Format → ℕ → Refusal
 tooMany f held = refusal 7 (f .most < held)
 
 -- 8: a shortened place is 1
-abbrev pub someShortened : Code → ℕ → List ℕ → Refusal
-someShortened c K w = refusal 8 ((n : ℕ) × ShortenedSet c K (bit w) n)
+abbrev pub someShortened : Format → ℕ → List ℕ → Refusal
+someShortened f K w = refusal 8 ((n : ℕ) × ShortenedSet f K (bit w) n)
 
 -- 10: the count of payload bits is not a multiple of a data block's
 abbrev pub brokenBlock : Format → ℕ → Refusal
 brokenBlock f K = refusal 10 (K % f .dataBlock ≡ 0 → ⊥)
 
+-- 16: a list has another length, or is no reordering of its places
+abbrev pub BadList : ℕ → List ℕ → Type 0
+BadList n l = (length l ≡ 2 * n → ⊥) ⊎ (Reordering n (entryOf l) → ⊥)
+
+abbrev pub badLists : ℕ → ℕ → Lists → List Refusal
+badLists n m none = []
+badLists n m (pair a b) = refusal 16 (BadList n a ⊎ BadList m b) ∷ []
+
+abbrev pub ofLists : Format → List Refusal
+ofLists f = badLists (payloadPlaces (f .code)) (checks (f .code)) (f .lists)
+
 abbrev pub ofCount : Format → ℕ → List Refusal
 ofCount f K = badCount f K ∷ brokenBlock f K ∷ []
 
--- encode: 1, 10, 2, 3, 4, 5
+abbrev pub ofPiece : Format → ℕ → ℕ → List ℕ → List Refusal
+ofPiece f held b s = tooMany f held ∷ wrongBytes s b ∷ unusedSet s b ∷ tooManyWith f held b ∷ []
+
+-- encode: 16, 1, 10, 2, 3, 4, 5
 abbrev pub encodeOrder : Format → ℕ → List ℕ → ℕ → ℕ → List Refusal
 encodeOrder f K u d room =
-    ofCount f K ++ wrongBytes u K ∷ unusedSet u K ∷ badDelimiter f d ∷ noRoom room (lineBits f K) ∷ []
+    ofLists f ++ (ofCount f K ++ wrongBytes u K ∷ unusedSet u K ∷ badDelimiter f d ∷ noRoom room (lineBits f K) ∷ [])
 
--- piece: 7, 2, 3, 6
+-- piece: 16, 7, 2, 3, 6
 abbrev pub pieceOrder : Format → ℕ → ℕ → List ℕ → List Refusal
-pieceOrder f held b s = tooMany f held ∷ wrongBytes s b ∷ unusedSet s b ∷ tooManyWith f held b ∷ []
+pieceOrder f held b s = ofLists f ++ ofPiece f held b s
 
--- finish: 7, 1, 10, 4, 5
+-- finish: 16, 7, 1, 10, 4, 5
 abbrev pub finishOrder : Format → ℕ → ℕ → ℕ → List Refusal
-finishOrder f held d room = tooMany f held ∷ ofCount f held ++ badDelimiter f d ∷ noRoom room (tailBits f) ∷ []
+finishOrder f held d room =
+    ofLists f ++ (tooMany f held ∷ ofCount f held ++ badDelimiter f d ∷ noRoom room (tailBits f) ∷ [])
 
--- complete: 1, 10, 2, 8
+-- complete: 16, 1, 10, 2, 8
 abbrev pub completeOrder : Format → ℕ → List ℕ → List Refusal
-completeOrder f K w = ofCount f K ++ wrongBytes w (places (f .code)) ∷ someShortened (f .code) K w ∷ []
+completeOrder f K w = ofLists f ++ (ofCount f K ++ wrongBytes w (places (f .code)) ∷ someShortened f K w ∷ [])
 
--- full-word check: 1, 10, 2
+-- full-word check: 16, 1, 10, 2
 abbrev pub wordOrder : Format → ℕ → List ℕ → List Refusal
-wordOrder f K w = ofCount f K ++ wrongBytes w (places (f .code)) ∷ []
+wordOrder f K w = ofLists f ++ (ofCount f K ++ wrongBytes w (places (f .code)) ∷ [])
 
--- line check: 1, 10, 2, 3, 4
+-- line check: 16, 1, 10, 2, 3, 4
 abbrev pub lineOrder : Format → ℕ → List ℕ → ℕ → List Refusal
-lineOrder f K l d = ofCount f K ++ wrongBytes l (lineBits f K) ∷ unusedSet l (lineBits f K) ∷ badDelimiter f d ∷ []
+lineOrder f K l d =
+    ofLists f ++ (ofCount f K ++ wrongBytes l (lineBits f K) ∷ unusedSet l (lineBits f K) ∷ badDelimiter f d ∷ [])

@@ -1,9 +1,10 @@
--- Paper 01, 'Stream': a fresh stream, and what an accepted piece adds. Any state from outside counts.
+-- Paper 01, 'Stream', and W2 of paper 02: a fresh stream, and what an accepted piece adds. Any state from outside
+-- counts.
 --
 --   streamBytes       384: the bytes of running checks that a stream holds
 --   fresh             0 bits held and 384 zero bytes of running checks
---   Fed c b s t t′    t′ is the stream t after the piece s of b bits: they stand at the next b places, and their checks
---                     are added to the running checks; check n is bit n of these
+--   Fed f b s t t′    t′ is the stream t after the piece s of b bits: they stand at the next b places, and the checks of
+--                     these bits, reordered, are added to the running checks; check n is bit n of these
 --
 -- Believe this file beside the paper; nothing here is proved.
 use mathlib.Core.Path.{_≡_}
@@ -11,7 +12,9 @@ use mathlib.Core.List.{List}
 use Prim.Native.Nat.{ℕ, _+_}
 use lib.ListN.{replicate}
 use Rattle.rules.specs.Bits.{bit, placed, Adds}
-use Rattle.rules.specs.Matrix.{Code, check}
+use Rattle.rules.specs.Matrix.{check}
+use Rattle.rules.specs.Formats.{Format}
+use Rattle.rules.specs.Words.{reordered}
 use Rattle.rules.specs.declared.Stream.{Stream}
 
 abbrev pub streamBytes : ℕ
@@ -20,6 +23,6 @@ streamBytes = 384
 abbrev pub fresh : Stream
 fresh = record { held = 0; checks = replicate streamBytes 0 }
 
-pub record Fed (c : Code) (b : ℕ) (s : List ℕ) (t t′ : Stream) : Type 0 where
+pub record Fed (f : Format) (b : ℕ) (s : List ℕ) (t t′ : Stream) : Type 0 where
   pub held : t′ .held ≡ t .held + b
-  pub checks : Adds (t .checks) (t′ .checks) (λ n. check c n (placed (t .held) b (bit s)))
+  pub checks : Adds (t .checks) (t′ .checks) (λ n. check (f .code) n (reordered f (placed (t .held) b (bit s))))

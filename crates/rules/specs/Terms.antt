@@ -1,5 +1,5 @@
--- For the contracts of inner functions: a check by its block columns, and the first of some numbers. No promise of a
--- public operation cites this file. The law check-columns says that a check is the sum mod 2 of its terms.
+-- For the contracts of inner functions: a check by its block columns, the first of some numbers, and the fibre code by
+-- one list alone. No promise of a public operation cites this file. The law check-columns says that a check is the sum mod 2 of its terms.
 --
 --   proper z a      the test of an entry, for blocks of z bits: it is -1, or a turn below z
 --   Proper z l      each entry of the line l passes it
@@ -8,6 +8,8 @@
 --   term c n w j    what block column j adds to check n of w
 --   firstOf xs      the first of the numbers xs that is not 0, or 0 where all are
 --   FirstTold xs r  r is that one
+--   byFirst a       the fibre code where the payload goes in by the list a; what does not ask for the parity's order
+--   bySecond b      and where the parity goes out by the list b; what does not ask for the payload's order
 use mathlib.Core.Path.{_≡_}
 use mathlib.Core.Bool.{Bool, cond}
 use mathlib.Core.List.{List, [], _∷_}
@@ -15,7 +17,10 @@ use Prim.Native.Nat.{ℕ, _+_, _*_, _/_, _%_}
 use lib.Dec.{T, ltb, eqb}
 use lib.IntN.{ℤ, pos, negsuc}
 use lib.ListN.{getD}
-use Rattle.rules.specs.Matrix.{Code}
+use Rattle.rules.specs.Matrix.{Code, checks, payloadPlaces}
+use Rattle.rules.specs.Table.{fibre}
+use Rattle.rules.specs.Lists.{placeIn, none}
+use Rattle.rules.specs.Formats.{Format, fibreBy}
 
 abbrev pub proper : ℕ → ℤ → Bool
 proper z (pos a) = ltb a z
@@ -40,3 +45,9 @@ firstOf (x ∷ xs) = cond (eqb x 0) (firstOf xs) x
 
 pub record FirstTold (xs : List ℕ) (r : ℕ) : Type 0 where
   pub same : r ≡ firstOf xs
+
+abbrev pub byFirst : List ℕ → Format
+byFirst a = fibreBy (placeIn (payloadPlaces fibre) a) (λ t. t) none
+
+abbrev pub bySecond : List ℕ → Format
+bySecond b = fibreBy (λ t. t) (placeIn (checks fibre) b) none

@@ -49,6 +49,14 @@ pub const TAIL_BYTES: usize = 322;
 // The bytes of the longest line word.
 pub const LINE_BYTES: usize = 2121;
 
+// The bytes of the sent parity.
+pub const SENT_BYTES: usize = 320;
+
+// The bytes of the two lists that a call is lent: of the payload places, and of the parity places.
+pub const FIRST_BYTES: usize = 29184;
+
+pub const SECOND_BYTES: usize = 6144;
+
 // Table 142-1, as printed: 69 lines of 12 entries, C1 to C12.
 const TABLE: [[i16; ROWS]; COLUMNS] = [
     [80, -1, -1, 105, -1, -1, 137, -1, -1, 0, 209, 53],

@@ -110,7 +110,7 @@ module _ (c : Code) (some : 0 < c .size) where
       (checks-as c (λ n l. rw b (placed-same (z * m) (z * (e - m)) _ _ (λ t r. ap (bit w) (omega (arith, b))) n)) q))
 
 module _ (z : ℕ) (w p : List ℕ) (h b k : ℕ) (q : Adds (replicate k 0) w (placed h b (bit p))) where
-  piece-bit : (n : ℕ) → bit w n ≡ placed h b (bit p) n
+  pub piece-bit : (n : ℕ) → bit w n ≡ placed h b (bit p) n
   piece-bit n = q .each n ∙ omega (arith, bit-zeros k n, placed-bits h b (bit p) (bit< p) n)
 
   pub blocks-piece : (a e : ℕ) → a ≤ e → z * a ≤ h → h + b ≤ z * e → (n : ℕ)

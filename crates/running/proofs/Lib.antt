@@ -1,3 +1,4 @@
 pub mod Blocks
+pub mod Inner
 pub mod Failing
 pub mod CoaxBlocks

@@ -51,8 +51,22 @@ use Rattle.theorems.proofs.Asked.{packed-free, counted-free}
 use Rattle.theorems.proofs.Refusing.{done-exactly, judged-exactly, kept-part}
 
 pub coax-sized : (k : CoaxCode) → Sized (coaxFormat k)
-coax-sized Long = record { rows = lit≤ tt; whole = refl; some = lit< tt; most = lit≤ tt; sent = lit≤ tt }
-coax-sized Short = record { rows = lit≤ tt; whole = refl; some = lit< tt; most = lit≤ tt; sent = lit≤ tt }
+coax-sized Long = record {
+  rows = lit≤ tt;
+  whole = refl;
+  some = lit< tt;
+  most = lit≤ tt;
+  sent = lit≤ tt;
+  kept = λ t h. refl;
+}
+coax-sized Short = record {
+  rows = lit≤ tt;
+  whole = refl;
+  some = lit< tt;
+  most = lit≤ tt;
+  sent = lit≤ tt;
+  kept = λ t h. refl;
+}
 
 -- where the inputs are what an operation asks, no refusal of its order applies
 module _ (f : Format) where
@@ -120,7 +134,7 @@ module _ (k : CoaxCode) where
 
   pub coax-check-same : (K : ℕ) (w : List ℕ) (j j′ : Judgement) → CoaxChecked k K w j → CoaxChecked k K w j′ → j ≡ j′
   coax-check-same K w =
-      checked-same (coaxWordOrder f K w) (WordVerdict (coaxCode k) K (bit w)) (word-same (coaxCode k) K (bit w))
+      checked-same (coaxWordOrder f K w) (WordVerdict f K (bit w)) (word-same f K (bit w))
 
   pub coax-encode-exactly : (K : ℕ) (u o : List ℕ) (a : Answer) (o′ : List ℕ) → CoaxEncoded k K u o a o′
       → Exactly (a ≡ Done) (CoaxEncodeAsks f K u (length o))

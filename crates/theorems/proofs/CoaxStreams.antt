@@ -43,7 +43,7 @@ module _ (k : CoaxCode) where
 
   pub coax-second-refused : (o : List ℕ) (r : Outcome) (o′ : List ℕ) → CoaxFinished k fresh o r o′
       → refusalOf (r .answer) ≡ 1
-  coax-second-refused o r o′ p = second-refused f (coax-sized k) 0 o r o′ (coax-finished k fresh o r o′ p)
+  coax-second-refused o r o′ p = second-refused f (coax-sized k) tt 0 o r o′ (coax-finished k fresh o r o′ p)
 
   module _ (one : OneParity (coaxCode k)) where
     pub coax-no-cut-told : {u v : ℕ → ℕ} {h : ℕ} {s t : Stream} → Reached f u h s → Reached f v h t

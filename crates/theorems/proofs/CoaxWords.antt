@@ -35,12 +35,12 @@ use Rattle.rules.specs.declared.Judgement.the-variants.{Judged}
 use Rattle.rules.specs.declared.CoaxCode.{CoaxCode}
 use Rattle.rules.proofs.CoaxLaws.{coax-numbers}
 use Rattle.rules.proofs.Checks.{check-same}
-use Rattle.laws.proofs.Bits.{bit-past}
+use Rattle.laws.proofs.Bits.{bit<, bit-past}
 use Rattle.laws.proofs.Runs.{run-low, run-each, run-none, run-same}
 use Rattle.laws.proofs.Written.{written-as}
-use Rattle.laws.proofs.Parities.{OneParity, packed-clear, parity-filled}
+use Rattle.laws.proofs.Parities.{OneParity, packed-clear, packed-bits, parity-filled}
 use Rattle.theorems.specs.Exactly.{Exactly}
-use Rattle.theorems.specs.Punctured.{completed}
+use Rattle.theorems.specs.Punctured.{allOutgoing}
 use Rattle.theorems.specs.Accepted.{GoodLine, GoodCoax}
 use Rattle.theorems.proofs.Refusing.{free-told}
 use Rattle.theorems.proofs.FullWords.{all-accepted, accepted-all, verdict-named}
@@ -63,11 +63,11 @@ module _ (k : CoaxCode) where
     good-coax : GoodCoax k K w → CoaxChecked k K w (Judged Accepted)
     good-coax g = record {
       told = free-told (coaxWordOrder f K w) (coax-word-free f K w (g .asked));
-      verdict = all-accepted c K w (λ n a b. absurd (omega (arith, g .asked .count .least))) (g .all-hold);
+      verdict = all-accepted f K w (λ n a b. absurd (omega (arith, g .asked .count .least))) (g .all-hold);
     }
 
     coax-good : CoaxChecked k K w (Judged Accepted) → GoodCoax k K w
-    coax-good x = record { asked = check-asks Accepted x; all-hold = accepted-all c K w (x .verdict) .1 }
+    coax-good x = record { asked = check-asks Accepted x; all-hold = accepted-all f K w (x .verdict) .1 }
 
     pub coax-accepted : (j : Judgement) → CoaxChecked k K w j → Exactly (j ≡ Judged Accepted) (GoodCoax k K w)
     coax-accepted j x = (
@@ -87,7 +87,7 @@ module _ (k : CoaxCode) where
     pub coax-check-named : (n m : ℕ) → CoaxChecked k K w (Judged (Rejected (Check n m)))
         → (n < checks c) × (check c n (bit w) ≡ 1) × ((i : ℕ) → i < n → check c i (bit w) ≡ 0)
         × (m ≡ howMany (checks c) (rowFails c (bit w)))
-    coax-check-named n m x = let v = verdict-named c K w n m (x .verdict) in (v .1, v .2, v .3, v .4)
+    coax-check-named n m x = let v = verdict-named f K w n m (x .verdict) in (v .1, v .2, v .3, v .4)
 
   pub coax-complete-then-check : (K : ℕ) (w w′ : List ℕ) → CoaxCompleted k K w Done w′ → (j : Judgement)
       → CoaxChecked k K w′ j → j ≡ Judged Accepted
@@ -109,22 +109,23 @@ module _ (k : CoaxCode) where
   line-bits : {K : ℕ} → Counted f K → lineBits f K ≡ places c
   line-bits n = omega (arith, n .least, n .most, coax-numbers k .parts)
 
-  -- no bits are punctured
-  line-full : {K : ℕ} → Counted f K → (l q : List ℕ) (n : ℕ) → n < places c → completed f K l q n ≡ bit l n
-  line-full {K} e l q n h =
-      run-each (payloadPlaces c) (padded K (bit l)) _ n (λ v. v ≡ bit l n)
-      (λ i. run-low K (bit l) zeros n (omega (arith, e .least)))
-      (λ i.
-      let at : K + (n - payloadPlaces c) ≡ n = omega (arith, e .least, e .most) in
-      run-low (checks c) (λ n. bit l (K + n)) (bit q) (n - payloadPlaces c) (omega (arith, coax-numbers k .parts))
-      ∙ ap (bit l) at)
+  -- no bits are punctured: a parity p that goes out as the bits of l after its payload makes l its full word
+  module _ {K : ℕ} (e : Counted f K) (l p : List ℕ) (same : (n : ℕ) → n < checks c → bit p n ≡ bit l (K + n)) where
+    line-full : (n : ℕ) → n < places c → fullWord c (padded K (bit l)) p n ≡ bit l n
+    line-full n h =
+        run-each (payloadPlaces c) (padded K (bit l)) (bit p) n (λ v. v ≡ bit l n)
+        (λ i. run-low K (bit l) zeros n (omega (arith, e .least)))
+        (λ i.
+        let at : K + (n - payloadPlaces c) ≡ n = omega (arith, e .least, e .most) in
+        same (n - payloadPlaces c) (omega (arith, coax-numbers k .parts)) ∙ ap (bit l) at)
 
-  full-check : {K : ℕ} → Counted f K → (l q : List ℕ) (n : ℕ) → check c n (completed f K l q) ≡ check c n (bit l)
-  full-check {K} e l q n = check-same c n (completed f K l q) (bit l) (line-full e l q)
+    full-check : (n : ℕ) → check c n (fullWord c (padded K (bit l)) p) ≡ check c n (bit l)
+    full-check n = check-same c n (fullWord c (padded K (bit l)) p) (bit l) line-full
 
   pub coax-good-line : (K : ℕ) (l : List ℕ) → GoodCoax k K l → GoodLine f K l 0
   coax-good-line K l g = record {
     asked = record {
+      lists = tt;
       count = record { least = e .least; most = e .most; whole = omega arith };
       line = subst (λ (b : ℕ). Packed b l) (sym (line-bits e)) (g .asked .word);
       delimiter = omega arith;
@@ -133,7 +134,11 @@ module _ (k : CoaxCode) where
       [],
       record {
         punctured = record { bytes = omega arith; unused = λ u. omega (arith, bit-past [] (u .0) (omega arith), u .2) };
-        all-hold = λ n h. full-check e l [] n ∙ g .all-hold n h;
+        parity = (
+          p .0,
+          record { packed = p .1; all-hold = λ n h. full-check e l (p .0) (p .2) n ∙ g .all-hold n h },
+          λ n h. p .2 n h ∙ sym (run-low (checks c) (λ n. bit l (K + n)) (bit []) n h),
+        );
         delimiter = λ n h. absurd (omega arith);
       },
     );
@@ -142,14 +147,27 @@ module _ (k : CoaxCode) where
       e : Counted f K
       e = g .asked .count
 
+      p : (p : List ℕ) × Packed (checks c) p × ((n : ℕ) → n < checks c → bit p n ≡ bit l (K + n))
+      p = packed-bits (checks c) (λ n. bit l (K + n)) (λ n. bit< l (K + n))
+
   pub coax-line-good : (K : ℕ) (l : List ℕ) → GoodLine f K l 0 → GoodCoax k K l
   coax-line-good K l g = record {
     asked = record { count = e; word = subst (λ (b : ℕ). Packed b l) (line-bits e) (g .asked .line) };
-    all-hold = λ n h. sym (full-check e l (g .completed .0) n) ∙ g .completed .1 .all-hold n h;
+    all-hold = λ n h. sym (full-check e l (p .0) same n) ∙ p .1 .all-hold n h;
   }
     where
       e : Counted f K
       e = record { least = g .asked .count .least; most = g .asked .count .most }
+
+      q : List ℕ
+      q = g .completed .0
+
+      p : (p : List ℕ) × Parity c (padded K (bit l)) p
+          × ((n : ℕ) → n < checks c → bit p n ≡ allOutgoing f K l q n)
+      p = g .completed .1 .parity
+
+      same : (n : ℕ) → n < checks c → bit (p .0) n ≡ bit l (K + n)
+      same n h = p .2 n h ∙ run-low (checks c) (λ n. bit l (K + n)) (bit q) n h
 
   -- what encode wrote to o, as the check is given it: the bytes of the word, and no more
   module _ (one : OneParity c) (K : ℕ) (u o o′ : List ℕ) (x : CoaxEncoded k K u o Done o′) where

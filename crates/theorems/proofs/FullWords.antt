@@ -3,6 +3,7 @@
 --   word-accepted         a full word is accepted exactly when its shortened places are 0 and every check holds
 --   shortened-named       a shortened place that is named is the lowest that is 1
 --   check-named           a row that is named is the first that fails, with how many do; no shortened place is 1
+--   Unset                 the shortened places of a word are 0
 --   all-accepted, accepted-all, verdict-named    the same of the verdict alone, by whatever order
 --   payload-kept, completed-length, completed-packed, completed-holds    what completing leaves: the payload places,
 --                         the bytes, their unused bits, the checks
@@ -42,29 +43,34 @@ not-one : (b : ℕ) → b < 2 → (b ≡ 1 → ⊥) → b ≡ 0
 not-one b h d = omega arith
 
 -- a verdict on the full word w, by whatever order
-module _ (c : Code) (K : ℕ) (w : List ℕ) where
+module _ (f : Format) (K : ℕ) (w : List ℕ) where
+  abbrev c : Code
+  c = f .code
+
   abbrev row : ℕ → ℕ
   row n = check c n (bit w)
 
   row-unset : (n : ℕ) → (row n ≡ 1 → ⊥) → row n ≡ 0
   row-unset n = not-one (row n) (check-below c n (bit w))
 
-  unset : Nowhere (ShortenedSet c K (bit w)) → (n : ℕ) → K ≤ n → n < payloadPlaces c → bit w n ≡ 0
+  -- the shortened places of w are 0
+  abbrev pub Unset : Type 0
+  Unset = (n : ℕ) → K ≤ f .first n → n < payloadPlaces c → bit w n ≡ 0
+
+  unset : Nowhere (ShortenedSet f K (bit w)) → Unset
   unset none n a b = not-one (bit w n) (bit< w n) (λ e. none n (a, b, e))
 
-  pub all-accepted : ((n : ℕ) → K ≤ n → n < payloadPlaces c → bit w n ≡ 0) → AllHold c (bit w)
-      → WordVerdict c K (bit w) Accepted
+  pub all-accepted : Unset → AllHold c (bit w) → WordVerdict f K (bit w) Accepted
   all-accepted shortened hold = (
     λ n s. omega (arith, shortened n (s .0) (s .1), s .2),
     λ n s. omega (arith, hold n (s .0), s .1),
   )
 
-  pub accepted-all : WordVerdict c K (bit w) Accepted
-      → ((n : ℕ) → K ≤ n → n < payloadPlaces c → bit w n ≡ 0) × AllHold c (bit w)
+  pub accepted-all : WordVerdict f K (bit w) Accepted → Unset × AllHold c (bit w)
   accepted-all v = (unset (v .0), λ n h. row-unset n (λ e. v .1 n (h, e)))
 
-  pub verdict-named : (n m : ℕ) → WordVerdict c K (bit w) (Rejected (Check n m))
-      → ((k : ℕ) → K ≤ k → k < payloadPlaces c → bit w k ≡ 0) × (n < checks c) × (check c n (bit w) ≡ 1)
+  pub verdict-named : (n m : ℕ) → WordVerdict f K (bit w) (Rejected (Check n m))
+      → Unset × (n < checks c) × (check c n (bit w) ≡ 1)
       × ((k : ℕ) → k < n → check c k (bit w) ≡ 0) × (m ≡ howMany (checks c) (rowFails c (bit w)))
   verdict-named n m v =
       let below : (k : ℕ) → k < n → row k ≡ 0 =
@@ -75,12 +81,12 @@ module _ (f : Format) (K : ℕ) (w : List ℕ) where
   good-word : GoodWord f K w → WordChecked f K w (Judged Accepted)
   good-word g = record {
     told = free-told (wordOrder f K w) (word-free f K w (g .asked));
-    verdict = all-accepted (f .code) K w (g .shortened) (g .all-hold);
+    verdict = all-accepted f K w (g .shortened) (g .all-hold);
   }
 
   word-good : WordChecked f K w (Judged Accepted) → GoodWord f K w
   word-good x =
-      let all = accepted-all (f .code) K w (x .verdict) in
+      let all = accepted-all f K w (x .verdict) in
       record {
         asked = word-exactly f K w (Judged Accepted) x .0 (Accepted, refl);
         shortened = all .0;
@@ -94,18 +100,19 @@ module _ (f : Format) (K : ℕ) (w : List ℕ) where
   )
 
   pub shortened-named : (n : ℕ) → WordChecked f K w (Judged (Rejected (Shortened n)))
-      → (K ≤ n) × (n < payloadPlaces (f .code)) × (bit w n ≡ 1) × ((k : ℕ) → K ≤ k → k < n → bit w k ≡ 0)
+      → (K ≤ f .first n) × (n < payloadPlaces (f .code)) × (bit w n ≡ 1)
+      × ((k : ℕ) → K ≤ f .first k → k < n → bit w k ≡ 0)
   shortened-named n x =
       let v = x .verdict in
-      let below : (k : ℕ) → K ≤ k → k < n → bit w k ≡ 0 =
+      let below : (k : ℕ) → K ≤ f .first k → k < n → bit w k ≡ 0 =
       λ k a l. not-one (bit w k) (bit< w k) (λ e. v .1 k l (a, omega (arith, l, v .0 .1), e)) in
       (v .0 .0, v .0 .1, v .0 .2, below)
 
   pub check-named : (n m : ℕ) → WordChecked f K w (Judged (Rejected (Check n m)))
-      → ((k : ℕ) → K ≤ k → k < payloadPlaces (f .code) → bit w k ≡ 0) × (n < checks (f .code))
-      × (check (f .code) n (bit w) ≡ 1) × ((k : ℕ) → k < n → check (f .code) k (bit w) ≡ 0)
+      → Unset f K w × (n < checks (f .code)) × (check (f .code) n (bit w) ≡ 1)
+      × ((k : ℕ) → k < n → check (f .code) k (bit w) ≡ 0)
       × (m ≡ howMany (checks (f .code)) (rowFails (f .code) (bit w)))
-  check-named n m x = verdict-named (f .code) K w n m (x .verdict)
+  check-named n m x = verdict-named f K w n m (x .verdict)
 
 -- a full word w that was completed to w′, by whatever order
 module _ (f : Format) (sized : Sized f) (w w′ : List ℕ) (bytes : length w ≡ need (places (f .code)))
@@ -170,8 +177,12 @@ module _ (f : Format) (sized : Sized f) (K : ℕ) (w w′ : List ℕ) (c : Compl
       let bytes = complete-asks .bytes in
       let kept = payload-kept f sized w w′ bytes (c .effect) in
       record {
-        asked = record { count = complete-asks .count; bytes = completed-length f sized w w′ bytes (c .effect) };
-        shortened = λ n a b. kept n b ∙ unset (f .code) K w (complete-asks .shortened) n a b;
+        asked = record {
+          lists = complete-asks .lists;
+          count = complete-asks .count;
+          bytes = completed-length f sized w w′ bytes (c .effect);
+        };
+        shortened = λ n a b. kept n b ∙ unset f K w (complete-asks .shortened) n a b;
         all-hold = completed-holds f sized w w′ bytes (c .effect);
       }
 

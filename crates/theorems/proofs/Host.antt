@@ -56,21 +56,20 @@ module _ {q : List Refusal} {A B : Type 0} {r : ℕ} (x : Answered (λ a. Promis
       let kept = kept-part (x .answer) (λ e. n (x .result ∙ ap refusalOf e)) (x .promised) in
       (t, omega arith, told-short q short r t, kept)
 
-module _ (K : ℕ) (u : List ℕ) (d : ℕ) (o : List ℕ) where
-  pub host-encode-same : (r s : ℕ) (o′ o″ : List ℕ) → Bytes o′ → Bytes o″ → HostEncoded K u d o r o′
-      → HostEncoded K u d o s o″
-      → (r ≡ s) × (o′ ≡ o″)
-  host-encode-same r s o′ o″ b b′ x y =
-      let same = encode-same fibreFormat fibre-one fibre-sized K u d o (x .answer) (y .answer) o′ o″ b b′ in
-      let e = same (x .promised) (y .promised) in
+module _ (a b : List ℕ) (K : ℕ) (u : List ℕ) (d : ℕ) (o : List ℕ) where
+  pub host-encode-same : (r s : ℕ) (o′ o″ : List ℕ) → Bytes o′ → Bytes o″ → HostEncoded a b K u d o r o′
+      → HostEncoded a b K u d o s o″ → (r ≡ s) × (o′ ≡ o″)
+  host-encode-same r s o′ o″ h h′ x y =
+      let same = encode-same (fibreFormat a b) fibre-one (fibre-sized a b) K u d o (x .answer) (y .answer) in
+      let e = same o′ o″ h h′ (x .promised) (y .promised) in
       (x .result ∙ ap refusalOf (e .0) ∙ sym (y .result), e .1)
 
-  pub host-encode-zero : (r : ℕ) (o′ : List ℕ) → HostEncoded K u d o r o′
-      → Exactly (r ≡ 0) (Encoded fibreFormat K u d o Done o′)
+  pub host-encode-zero : (r : ℕ) (o′ : List ℕ) → HostEncoded a b K u d o r o′
+      → Exactly (r ≡ 0) (Encoded (fibreFormat a b) K u d o Done o′)
   host-encode-zero r o′ x = answered-zero x
 
-  pub host-encode-refused : (r : ℕ) (o′ : List ℕ) → HostEncoded K u d o r o′ → (r ≡ 0 → ⊥)
-      → tells (encodeOrder fibreFormat K u d (length o)) r × (0 < r) × (r < 2 ^ 16) × (o′ ≡ o)
+  pub host-encode-refused : (r : ℕ) (o′ : List ℕ) → HostEncoded a b K u d o r o′ → (r ≡ 0 → ⊥)
+      → tells (encodeOrder (fibreFormat a b) K u d (length o)) r × (0 < r) × (r < 2 ^ 16) × (o′ ≡ o)
   host-encode-refused r o′ x = answered-refused x tt
 
 -- P says what a check may answer to an input, and G when it accepts that input; r is the number of an answer j
@@ -95,55 +94,55 @@ module _ (P : Judgement → Type 0) (G : Type 0) (accepted : (j : Judgement) →
         λ q. fits (Refused r) q,
       )
 
-module _ (K : ℕ) (w : List ℕ) where
-  pub host-word-same : (r s : ℕ) → HostWord K w r → HostWord K w s → r ≡ s
+module _ (a b : List ℕ) (K : ℕ) (w : List ℕ) where
+  pub host-word-same : (r s : ℕ) → HostWord a b K w r → HostWord a b K w s → r ≡ s
   host-word-same r s x y =
-      let same = word-check-same fibreFormat K w (x .judgement) (y .judgement) (x .checked) (y .checked) in
+      let same = word-check-same (fibreFormat a b) K w (x .judgement) (y .judgement) (x .checked) (y .checked) in
       x .result ∙ ap judgementNumber same ∙ sym (y .result)
 
-  module _ (r : ℕ) (x : HostWord K w r) where
-    word-told : WordChecked fibreFormat K w (readBack r) × Exactly (r ≡ 0) (GoodWord fibreFormat K w)
-        × Exactly ((0 < r) × (r < 2 ^ 16)) (WordChecked fibreFormat K w (Refused r))
+  module _ (r : ℕ) (x : HostWord a b K w r) where
+    word-told : WordChecked (fibreFormat a b) K w (readBack r) × Exactly (r ≡ 0) (GoodWord (fibreFormat a b) K w)
+        × Exactly ((0 < r) × (r < 2 ^ 16)) (WordChecked (fibreFormat a b) K w (Refused r))
     word-told =
-        told (WordChecked fibreFormat K w) _ (word-accepted fibreFormat K w) (word-fits K w) r (x .judgement)
-        (x .checked) (x .result)
+        told (WordChecked (fibreFormat a b) K w) _ (word-accepted (fibreFormat a b) K w) (word-fits a b K w) r
+        (x .judgement) (x .checked) (x .result)
 
-    pub host-word-read : WordChecked fibreFormat K w (readBack r)
+    pub host-word-read : WordChecked (fibreFormat a b) K w (readBack r)
     host-word-read = word-told .0
 
-    pub host-word-zero : Exactly (r ≡ 0) (GoodWord fibreFormat K w)
+    pub host-word-zero : Exactly (r ≡ 0) (GoodWord (fibreFormat a b) K w)
     host-word-zero = word-told .1
 
-    pub host-word-refused : Exactly ((0 < r) × (r < 2 ^ 16)) (WordChecked fibreFormat K w (Refused r))
+    pub host-word-refused : Exactly ((0 < r) × (r < 2 ^ 16)) (WordChecked (fibreFormat a b) K w (Refused r))
     host-word-refused = word-told .2
 
-module _ (K : ℕ) (l : List ℕ) (d : ℕ) where
-  pub host-line-same : (r s : ℕ) → HostLine K l d r → HostLine K l d s → r ≡ s
+module _ (a b : List ℕ) (K : ℕ) (l : List ℕ) (d : ℕ) where
+  pub host-line-same : (r s : ℕ) → HostLine a b K l d r → HostLine a b K l d s → r ≡ s
   host-line-same r s x y =
-      let same = line-check-same fibreFormat fibre-one fibre-sized K l d (x .judgement) (y .judgement) in
+      let same = line-check-same (fibreFormat a b) fibre-one (fibre-sized a b) K l d (x .judgement) (y .judgement) in
       x .result ∙ ap judgementNumber (same (x .checked) (y .checked)) ∙ sym (y .result)
 
-  module _ (r : ℕ) (x : HostLine K l d r) where
-    line-told : LineChecked fibreFormat K l d (readBack r) × Exactly (r ≡ 0) (GoodLine fibreFormat K l d)
-        × Exactly ((0 < r) × (r < 2 ^ 16)) (LineChecked fibreFormat K l d (Refused r))
+  module _ (r : ℕ) (x : HostLine a b K l d r) where
+    line-told : LineChecked (fibreFormat a b) K l d (readBack r) × Exactly (r ≡ 0) (GoodLine (fibreFormat a b) K l d)
+        × Exactly ((0 < r) × (r < 2 ^ 16)) (LineChecked (fibreFormat a b) K l d (Refused r))
     line-told =
-        told (LineChecked fibreFormat K l d) _ (line-accepted fibreFormat fibre-one fibre-sized K l d) (line-fits K l d)
-        r (x .judgement) (x .checked) (x .result)
+        told (LineChecked (fibreFormat a b) K l d) _ (line-accepted (fibreFormat a b) fibre-one (fibre-sized a b) K l d)
+        (line-fits a b K l d) r (x .judgement) (x .checked) (x .result)
 
-    pub host-line-read : LineChecked fibreFormat K l d (readBack r)
+    pub host-line-read : LineChecked (fibreFormat a b) K l d (readBack r)
     host-line-read = line-told .0
 
-    pub host-line-zero : Exactly (r ≡ 0) (GoodLine fibreFormat K l d)
+    pub host-line-zero : Exactly (r ≡ 0) (GoodLine (fibreFormat a b) K l d)
     host-line-zero = line-told .1
 
-    pub host-line-refused : Exactly ((0 < r) × (r < 2 ^ 16)) (LineChecked fibreFormat K l d (Refused r))
+    pub host-line-refused : Exactly ((0 < r) × (r < 2 ^ 16)) (LineChecked (fibreFormat a b) K l d (Refused r))
     host-line-refused = line-told .2
 
 answer-fits : (j : Judgement) → CheckAnswer j → JudgementFits j
 answer-fits j a =
-    ⊎-elim (λ x. word-fits (x .0) (x .1) j (x .2))
+    ⊎-elim (λ x. word-fits (x .0) (x .1) (x .2) (x .3) j (x .4))
     (λ b.
-    ⊎-elim (λ x. line-fits (x .0) (x .1) (x .2) j (x .3)) (λ x. coax-check-fits (x .0) (x .1) (x .2) j (x .3)) b) a
+    ⊎-elim (λ x. line-fits (x .0) (x .1) (x .2) (x .3) (x .4) j (x .5)) (λ x. coax-check-fits (x .0) (x .1) (x .2) j (x .3)) b) a
 
 pub answers-apart : (i j : Judgement) → CheckAnswer i → CheckAnswer j → judgementNumber i ≡ judgementNumber j → i ≡ j
 answers-apart i j a b e = apart i j (answer-fits i a) (answer-fits j b) e

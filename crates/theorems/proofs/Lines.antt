@@ -16,9 +16,9 @@ use lib.Dec.{lit<}
 use lib.ListN.{length, take, length-take, List·getD-eq-default}
 use lib.Seq.{length-take-le, getD-take}
 use Rattle.rules.specs.Bits.{bit, Bytes, need, zeros, run, Packed, Written}
-use Rattle.rules.specs.Matrix.{checks, check}
+use Rattle.rules.specs.Matrix.{checks}
 use Rattle.rules.specs.Formats.{Format}
-use Rattle.rules.specs.Words.{padded, fullWord, Parity, digit, tail, tailBits, lineWord, lineBits}
+use Rattle.rules.specs.Words.{padded, reordered, Parity, digit, outgoing, tail, tailBits, lineWord, lineBits}
 use Rattle.rules.specs.Verdicts.{TailVerdict, LineVerdict}
 use Rattle.rules.specs.Refusals.{lineOrder}
 use Rattle.rules.specs.Asked.{EncodeAsks}
@@ -27,16 +27,15 @@ use Rattle.rules.specs.declared.Answer.the-variants.{Done}
 use Rattle.rules.specs.declared.Verdict.the-variants.{Accepted}
 use Rattle.rules.specs.declared.Judgement.{Judgement}
 use Rattle.rules.specs.declared.Judgement.the-variants.{Judged}
-use Rattle.rules.proofs.Checks.{check-same}
 use Rattle.laws.proofs.Bits.{bit<, bit-take}
-use Rattle.laws.proofs.Runs.{run-low, run-each, run-below}
+use Rattle.laws.proofs.Runs.{run-low, run-each}
 use Rattle.laws.proofs.Written.{written-as}
 use Rattle.laws.proofs.Told.{not-different}
 use Rattle.laws.proofs.Tails.{tail-low, tail-high, line-high}
-use Rattle.laws.proofs.Parities.{parity-as, OneParity, full-same, packed-same, packed-run, packed-bits}
+use Rattle.laws.proofs.Parities.{parity-as, padded-same, OneParity, packed-same, packed-run, packed-bits}
 use Rattle.theorems.specs.Exactly.{Exactly}
 use Rattle.theorems.specs.Sized.{Sized}
-use Rattle.theorems.specs.Punctured.{completed, Completes}
+use Rattle.theorems.specs.Punctured.{allOutgoing, Completes}
 use Rattle.theorems.specs.Accepted.{GoodLine}
 use Rattle.theorems.proofs.Same.{written-bit, line-one, line-check-same}
 use Rattle.theorems.proofs.Refusing.{free-told}
@@ -63,7 +62,7 @@ module _ (f : Format) (K : ℕ) (l : List ℕ) (d : ℕ) (p : List ℕ) where
 
   accepted-tail : TailVerdict f K l d p Accepted → (n : ℕ) → n < tailBits f → bit l (K + n) ≡ tail f p d n
   accepted-tail v n h =
-      run-each (f .sent) (bit p) (run (f .delimiter) (digit d) zeros) n (λ b. bit l (K + n) ≡ b)
+      run-each (f .sent) (outgoing f p) (run (f .delimiter) (digit d) zeros) n (λ b. bit l (K + n) ≡ b)
       (λ i. not-different _ _ (λ x. v .0 n (i, x)))
       (λ i.
       let at : K + f .sent + (n - f .sent) ≡ K + n = omega arith in
@@ -72,22 +71,12 @@ module _ (f : Format) (K : ℕ) (l : List ℕ) (d : ℕ) (p : List ℕ) where
 
 module _ (f : Format) (one : OneParity (f .code)) (sized : Sized f) where
   module _ (K : ℕ) (l : List ℕ) (d : ℕ) where
-    -- the parity places of l, with the punctured bits q, are the bits of the parity p
-    abbrev Fills : List ℕ → List ℕ → Type 0
-    Fills p q = (n : ℕ) → n < checks (f .code) → bit p n ≡ run (f .sent) (λ n. bit l (K + n)) (bit q) n
-
-    filled : (p q : List ℕ) → Fills p q → (n : ℕ)
-        → check (f .code) n (fullWord (f .code) (padded K (bit l)) p) ≡ check (f .code) n (completed f K l q)
-    filled p q e n =
-        check-same (f .code) n (fullWord (f .code) (padded K (bit l)) p) (completed f K l q)
-        (full-same (f .code) (sized .rows) (padded K (bit l)) (bit p) _ e)
-
     line-completed : LineVerdict f K l d Accepted → (q : List ℕ) × Completes f K l d q
     line-completed v = (
       q .0,
       record {
         punctured = q .1;
-        all-hold = λ n h. sym (filled p (q .0) fills n) ∙ v .1 .all-hold n h;
+        parity = (p, v .1, fills);
         delimiter = λ n h. not-different _ _ (λ x. v .2 .1 n (h, x));
       },
     )
@@ -96,12 +85,14 @@ module _ (f : Format) (one : OneParity (f .code)) (sized : Sized f) where
         p = v .0
 
         q : (q : List ℕ) × Packed (checks (f .code) - f .sent) q
-            × ((n : ℕ) → n < checks (f .code) - f .sent → bit q n ≡ bit p (f .sent + n))
-        q = packed-bits (checks (f .code) - f .sent) (λ n. bit p (f .sent + n)) (λ n. bit< p (f .sent + n))
+            × ((n : ℕ) → n < checks (f .code) - f .sent → bit q n ≡ outgoing f p (f .sent + n))
+        q =
+            packed-bits (checks (f .code) - f .sent) (λ n. outgoing f p (f .sent + n))
+            (λ n. bit< p (f .second (f .sent + n)))
 
-        fills : Fills p (q .0)
+        fills : (n : ℕ) → n < checks (f .code) → outgoing f p n ≡ allOutgoing f K l (q .0) n
         fills n h =
-            run-each (f .sent) (λ n. bit l (K + n)) (bit (q .0)) n (λ b. bit p n ≡ b)
+            run-each (f .sent) (λ n. bit l (K + n)) (bit (q .0)) n (λ b. outgoing f p n ≡ b)
             (λ i. sym (not-different _ _ (λ x. v .2 .0 n (i, x))))
             (λ i.
             let e : f .sent + (n - f .sent) ≡ n = omega arith in
@@ -109,18 +100,15 @@ module _ (f : Format) (one : OneParity (f .code)) (sized : Sized f) where
 
     completed-line : (q : List ℕ) → Completes f K l d q → LineVerdict f K l d Accepted
     completed-line q c = (
-      p .0,
-      record { packed = p .1; all-hold = λ n h. filled (p .0) q (p .2) n ∙ c .all-hold n h },
+      c .parity .0,
+      c .parity .1,
       (
-        λ n x. x .1 (sym (p .2 n (omega (arith, x .0)) ∙ run-low (f .sent) (λ n. bit l (K + n)) (bit q) n (x .0))),
+        λ n x.
+            let sent = run-low (f .sent) (λ n. bit l (K + n)) (bit q) n (x .0) in
+            x .1 (sym (c .parity .2 n (omega (arith, x .0)) ∙ sent)),
         λ n x. x .1 (c .delimiter n (x .0)),
       ),
     )
-      where
-        p : (p : List ℕ) × Packed (checks (f .code)) p × Fills p q
-        p =
-            packed-bits (checks (f .code)) (run (f .sent) (λ n. bit l (K + n)) (bit q))
-            (run-below (f .sent) (λ n. bit l (K + n)) (bit q) (λ n h. bit< l (K + n)) (bit< q))
 
     pub good-line : GoodLine f K l d → LineChecked f K l d (Judged Accepted)
     good-line g = record {
@@ -163,21 +151,27 @@ module _ (f : Format) (one : OneParity (f .code)) (sized : Sized f) where
     verdict : LineVerdict f K l d Accepted
     verdict = (
       p,
-      parity-as (f .code) K (bit u) (bit l) p
-          (λ n h. sym (line-bit n (omega arith) ∙ run-low K (bit u) (tail f p d) n h)) (e .effect .1),
+      parity-as (f .code)
+          (λ n h. padded-same K (λ m i. sym (line-bit m (omega arith) ∙ run-low K (bit u) (tail f p d) m i)) (f .first n))
+          (e .effect .1),
       tail-accepted f K l d p (λ n h. line-bit (K + n) (omega arith) ∙ line-high f K (bit u) p d n),
     )
 
     pub encoded-good : GoodLine f K l d
     encoded-good = record {
-      asked = record { count = encode-asks .count; line = line-packed; delimiter = encode-asks .delimiter };
+      asked = record {
+        lists = encode-asks .lists;
+        count = encode-asks .count;
+        line = line-packed;
+        delimiter = encode-asks .delimiter;
+      };
       completed = line-completed K l d verdict;
     }
 
     pub encode-then-check : (j : Judgement) → LineChecked f K l d j → j ≡ Judged Accepted
     encode-then-check j h = line-accepted K l d j h .1 encoded-good
 
-    pub encode-exact : (q : List ℕ) → Parity (f .code) (padded K (bit u)) q
+    pub encode-exact : (q : List ℕ) → Parity (f .code) (reordered f (padded K (bit u))) q
         → Written (lineBits f K) (lineWord f K (bit u) q d) o o′
     encode-exact q h = written-as (λ n i. line-one f one sized K u p q d (e .effect .1) h n) (e .effect .2)
 
@@ -199,5 +193,5 @@ module _ (f : Format) (one : OneParity (f .code)) (sized : Sized f) where
           packed-same line-packed (line-good K k d c .asked .line) (bytes-take (need (lineBits f K)) o′ bytes′) bytes
           (λ n h.
           bit-take o′ (need (lineBits f K)) n (omega arith)
-          ∙ written-bit (encode-exact q (parity-as (f .code) K (bit k) (bit u) q same (c .verdict .1))) n h
+          ∙ written-bit (encode-exact q (parity-as (f .code) (λ m i. padded-same K same (f .first m)) (c .verdict .1))) n h
           ∙ accepted-bit n h)

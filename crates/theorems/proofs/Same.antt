@@ -17,7 +17,7 @@ use lib.Seq.{getD-append-add}
 use Rattle.rules.specs.Bits.{bit, Bytes, need, zeros, Written}
 use Rattle.rules.specs.Matrix.{payloadPlaces}
 use Rattle.rules.specs.Formats.{Format}
-use Rattle.rules.specs.Words.{padded, Parity, tail, tailBits, lineWord, lineBits}
+use Rattle.rules.specs.Words.{padded, reordered, Parity, outgoing, tail, tailBits, lineWord, lineBits}
 use Rattle.rules.specs.Verdicts.{WordVerdict, LineVerdict}
 use Rattle.rules.specs.Streams.{fresh, Fed}
 use Rattle.rules.specs.Refusals.{Refusal}
@@ -34,7 +34,7 @@ use Rattle.laws.proofs.Adds.{adds-same}
 use Rattle.laws.proofs.Told.{promise-same, checked-same}
 use Rattle.laws.proofs.Judged.{word-same, line-same}
 use Rattle.laws.proofs.Tails.{tail-same}
-use Rattle.laws.proofs.Parities.{OneParity, parity-bits-one, payload-one}
+use Rattle.laws.proofs.Parities.{OneParity, own-same, parity-bits-one, payload-one}
 use Rattle.theorems.specs.Sized.{Sized}
 
 -- the second part of bytes is bytes
@@ -71,7 +71,7 @@ left-of t o = ap₂ (λ (t : Stream) (o : List ℕ). (t, o)) t o
 
 module _ (f : Format) where
   pub word-check-same : (K : ℕ) (w : List ℕ) (j j′ : Judgement) → WordChecked f K w j → WordChecked f K w j′ → j ≡ j′
-  word-check-same K w = checked-same (wordOrder f K w) (WordVerdict (f .code) K (bit w)) (word-same (f .code) K (bit w))
+  word-check-same K w = checked-same (wordOrder f K w) (WordVerdict f K (bit w)) (word-same f K (bit w))
 
   pub piece-same : (b : ℕ) (s : List ℕ) (t : Stream) (r r′ : Outcome) → Bytes (r .stream .checks)
       → Bytes (r′ .stream .checks) → PieceTaken f b s t r → PieceTaken f b s t r′ → r ≡ r′
@@ -79,7 +79,7 @@ module _ (f : Format) where
     where
       both : (r .answer ≡ r′ .answer) × (r .stream ≡ r′ .stream)
       both =
-          promise-same (λ (v : Stream). Bytes (v .checks)) (λ v. Fed (f .code) b s t v) (λ v. v ≡ t)
+          promise-same (λ (v : Stream). Bytes (v .checks)) (λ v. Fed f b s t v) (λ v. v ≡ t)
           (λ v v′ g g′ p q. stream-of (p .held ∙ sym (q .held)) (adds-same g g′ (p .checks) (q .checks)))
           (λ v v′ e e′. e ∙ sym e′)
           (pieceOrder f (t .held) b s) (r .answer) (r′ .answer) (r .stream) (r′ .stream) h k x y
@@ -109,14 +109,14 @@ module _ (f : Format) where
     module _ (sized : Sized f) where
       -- the sent bits of a payload's parity are single
       sent-one : (x : ℕ → ℕ) (p q : List ℕ) → Parity (f .code) x p → Parity (f .code) x q → (n : ℕ) → n < f .sent
-          → bit p n ≡ bit q n
-      sent-one x p q a b n h = parity-bits-one (f .code) one x p q a b n (omega arith)
+          → outgoing f p n ≡ outgoing f q n
+      sent-one x p q a b n h = parity-bits-one (f .code) one x p q a b (f .second n)
 
-      pub line-one : (K : ℕ) (u p q : List ℕ) (d : ℕ) → Parity (f .code) (padded K (bit u)) p
-          → Parity (f .code) (padded K (bit u)) q → (n : ℕ) → lineWord f K (bit u) p d n ≡ lineWord f K (bit u) q d n
+      pub line-one : (K : ℕ) (u p q : List ℕ) (d : ℕ) → Parity (f .code) (reordered f (padded K (bit u))) p
+          → Parity (f .code) (reordered f (padded K (bit u))) q → (n : ℕ) → lineWord f K (bit u) p d n ≡ lineWord f K (bit u) q d n
       line-one K u p q d a b =
           run-same K (bit u) (tail f p d) (bit u) (tail f q d) (λ n l. refl)
-          (tail-same f p q d (sent-one (padded K (bit u)) p q a b))
+          (tail-same f p q d (sent-one (reordered f (padded K (bit u))) p q a b))
 
       pub written-line-same : (q : List Refusal) (K : ℕ) (u : List ℕ) (d : ℕ) (o : List ℕ) (a b : Answer)
           (o′ o″ : List ℕ) → Bytes o′ → Bytes o″ → Promise q a (LineWritten f K u d o o′) (o′ ≡ o)
@@ -135,7 +135,8 @@ module _ (f : Format) where
       pub line-check-same : (K : ℕ) (l : List ℕ) (d : ℕ) (j j′ : Judgement) → LineChecked f K l d j
           → LineChecked f K l d j′ → j ≡ j′
       line-check-same K l d =
-          checked-same (lineOrder f K l d) (LineVerdict f K l d) (line-same f K l d (sent-one (padded K (bit l))))
+          checked-same (lineOrder f K l d) (LineVerdict f K l d)
+          (line-same f K l d (sent-one (reordered f (padded K (bit l)))))
 
       -- what a finish by the order q leaves
       abbrev FinishedBy : List Refusal → ℕ → Stream → List ℕ → Outcome → List ℕ → Type 0
@@ -154,9 +155,9 @@ module _ (f : Format) where
 
           done : (v v′ : List ℕ) → Bytes v → Bytes v′ → Tail v → Tail v′ → v ≡ v′
           done v v′ g g′ p q =
-              let same = one .own-bits-one (t .checks) (p .0) (q .0) (p .1) (q .1) in
+              let same = own-same (f .code) one (t .checks) (p .0) (q .0) (p .1) (q .1) in
               written-same (tailBits f) _ _ o v v′ g g′
-              (λ n l. tail-same f (p .0) (q .0) d (λ m i. same m (omega arith)) n) (p .2) (q .2)
+              (λ n l. tail-same f (p .0) (q .0) d (λ m i. same (f .second m)) n) (p .2) (q .2)
 
           both : (r .answer ≡ r′ .answer) × (_≡_ {A = Stream × List ℕ} (r .stream, o′) (r′ .stream, o″))
           both =

@@ -1,26 +1,27 @@
 -- Demand 3: a stream takes a payload cut anywhere, and no cut can be told from another. Any format.
 --
---   running         after any attempts the running checks are those of the bits accepted so far, followed by zeros
+--   running         after any attempts the running checks are those of the bits accepted so far, followed by zeros, all
+--                   reordered
 --   held-counted    and the bits held are the counts of the accepted pieces added up
 --   cut-alike       two cuttings of one payload, told bit by bit, leave the same stream
 --   no-cut-told     and no finish tells them apart: the same answer, the same stream, the same output
 --   finish-encodes  the finish writes the tail that encode writes for the whole payload
 --   fresh-again     a finish that is done hands back a fresh stream
---   second-refused  so that a second finish is refused by 1
+--   second-refused  so that a second finish, by lists that fit, is refused by 1
 --
 -- Asked says when a piece is accepted, whatever its count, and when a finish is done.
 use mathlib.Core.Path.{_≡_, refl, sym, subst, _∙_}
 use mathlib.Core.Logic.{inl, ⊎-elim}
 use mathlib.Core.List.{List}
-use Prim.Native.Nat.{ℕ, zero, suc, _+_, _-_, _%_, _≤_, _<_}
+use Prim.Native.Nat.{ℕ, _+_, _-_, _%_, _≤_, _<_}
 use native.Mathlib.Decide.{decLt}
 use native.Mathlib.Omega.{arith}
 use lib.Dec.{lit<}
-use lib.ListN.{getD, replicate, length-replicate}
+use lib.ListN.{length-replicate}
 use Rattle.rules.specs.Bits.{bit, Bytes, zeros, run, placed, sum}
 use Rattle.rules.specs.Matrix.{payloadPlaces}
 use Rattle.rules.specs.Formats.{Format}
-use Rattle.rules.specs.Words.{padded, tailBits}
+use Rattle.rules.specs.Words.{padded, reordered, tailBits}
 use Rattle.rules.specs.Streams.{streamBytes, fresh, Fed}
 use Rattle.rules.specs.Refusals.{Refusal, pieceOrder}
 use Rattle.rules.specs.Promises.{refusalOf, Promise, Encoded, Finished}
@@ -29,8 +30,10 @@ use Rattle.rules.specs.declared.Answer.the-variants.{Done, Refused}
 use Rattle.rules.specs.declared.Stream.{Stream}
 use Rattle.rules.specs.declared.Outcome.{Outcome}
 use Rattle.rules.proofs.Checks.{check-same, check-sum, check-zeros}
-use Rattle.laws.proofs.Bits.{bit<, bit-zeros, bits-same}
+use Rattle.laws.proofs.Bits.{bit<, byte-zeros, bit-zeros, bits-same}
 use Rattle.laws.proofs.Runs.{run-low, run-high, run-each, run-below}
+use Rattle.rules.specs.Asked.{ListsFit}
+use Rattle.laws.proofs.Lent.{lent-rest}
 use Rattle.laws.proofs.Asked.{piece-asked}
 use Rattle.laws.proofs.Tails.{line-high}
 use Rattle.laws.proofs.Parities.{OneParity, payload-parity}
@@ -39,11 +42,6 @@ use Rattle.theorems.specs.Attempts.{chosen, Reached, begun, piece, finis
 use Rattle.theorems.proofs.Same.{written-bit, stream-of, finish-same}
 use Rattle.theorems.proofs.Refusing.{done-part}
 use Rattle.theorems.proofs.Lines.{encode-exact}
-
-zero-byte : (n i : ℕ) → _≡_ {A = ℕ} (getD (replicate n 0) i 0) 0
-zero-byte zero i = refl
-zero-byte (suc n) zero = refl
-zero-byte (suc n) (suc i) = zero-byte n i
 
 -- the bits u, and then b bits of s, as a sum
 joined : (h b : ℕ) (u x : ℕ → ℕ) → ((n : ℕ) → u n < 2) → ((n : ℕ) → h ≤ n → u n ≡ 0) → ((n : ℕ) → x n < 2) → (n : ℕ)
@@ -63,12 +61,12 @@ module _ (f : Format) where
     bits = λ n. lit< tt;
     after = λ n h. refl;
     long = length-replicate {A = ℕ} streamBytes 0;
-    bytes = λ i. rw (zero-byte streamBytes i) (lit< tt);
+    bytes = λ i. rw (byte-zeros streamBytes i) (lit< tt);
     checks = λ n. bit-zeros streamBytes n ∙ sym (check-zeros (f .code) n);
   }
 
   module _ {u : ℕ → ℕ} {h : ℕ} {t : Stream} (r : Running f u h t) where
-    fed-running : {v : Stream} (b : ℕ) (s : List ℕ) → t .held + b ≤ f .most → Fed (f .code) b s t v → Bytes (v .checks)
+    fed-running : {v : Stream} (b : ℕ) (s : List ℕ) → t .held + b ≤ f .most → Fed f b s t v → Bytes (v .checks)
         → Running f (run h u (run b (bit s) zeros)) (h + b) v
     fed-running {v} b s fits fed bytes = record {
       held = omega arith;
@@ -80,13 +78,13 @@ module _ (f : Format) where
       bytes = bytes;
       checks = λ n.
           (rw (r .held, r .checks n) at (fed .checks .each n))
-          ∙ sym (check-sum (f .code) n u (placed h b (bit s)))
-          ∙ check-same (f .code) n (sum u (placed h b (bit s))) (run h u (run b (bit s) zeros))
-          (λ m k. joined h b u (bit s) (r .bits) (r .after) (bit< s) m);
+          ∙ sym (check-sum (f .code) n (reordered f u) (reordered f (placed h b (bit s))))
+          ∙ check-same (f .code) n _ (reordered f (run h u (run b (bit s) zeros)))
+          (λ m k. joined h b u (bit s) (r .bits) (r .after) (bit< s) (f .first m));
     }
 
     taken-running : (b : ℕ) (s : List ℕ) (a : Answer) (v : Stream)
-        → Promise (pieceOrder f (t .held) b s) a (Fed (f .code) b s t v) (v ≡ t) → Bytes (v .checks)
+        → Promise (pieceOrder f (t .held) b s) a (Fed f b s t v) (v ≡ t) → Bytes (v .checks)
         → Running f (chosen a (run h u (run b (bit s) zeros)) u) (chosen a (h + b) h) v
     taken-running b s Done v p bytes =
         fed-running b s (piece-asked f refl (t .held) b s (p .told) .most) (p .effect) bytes
@@ -120,18 +118,19 @@ module _ (f : Format) where
         let q = running y in
         stream-of (r .held ∙ sym (q .held))
         (bits-same _ _ (r .bytes) (q .bytes) (r .long ∙ sym (q .long))
-        (λ n l. r .checks n ∙ check-same (f .code) n u v (λ m k. same-bits m) ∙ sym (q .checks n)))
+        (λ n l. r .checks n ∙ check-same (f .code) n (reordered f u) (reordered f v) (λ m k. same-bits (f .first m)) ∙ sym (q .checks n)))
 
   -- a finish that is done leaves a fresh stream, and a finish of a fresh stream is refused by 1
   pub fresh-again : (d : ℕ) (t : Stream) (o : List ℕ) (r : Outcome) (o′ : List ℕ) → r .answer ≡ Done
       → Finished f d t o r o′ → r .stream ≡ fresh
   fresh-again d t o r o′ e p = done-part (r .answer) e p .0
 
-  pub second-refused : Sized f → (d : ℕ) (o : List ℕ) (r : Outcome) (o′ : List ℕ) → Finished f d fresh o r o′
-      → refusalOf (r .answer) ≡ 1
-  second-refused sized d o r o′ p =
+  pub second-refused : Sized f → ListsFit f → (d : ℕ) (o : List ℕ) (r : Outcome) (o′ : List ℕ)
+      → Finished f d fresh o r o′ → refusalOf (r .answer) ≡ 1
+  second-refused sized fit d o r o′ p =
       ⊎-elim (λ a. absurd (omega (arith, a .0)))
-      (λ a. ⊎-elim (λ b. b .1) (λ b. absurd (b .0 (inl (sized .some)))) (a .1)) (p .told)
+      (λ a. ⊎-elim (λ b. b .1) (λ b. absurd (b .0 (inl (sized .some)))) (a .1))
+      (lent-rest f _ (refusalOf (r .answer)) fit (p .told))
 
   module _ (one : OneParity (f .code)) (sized : Sized f) where
     pub no-cut-told : {u v : ℕ → ℕ} {h : ℕ} {s t : Stream} → Reached f u h s → Reached f v h t
@@ -141,13 +140,14 @@ module _ (f : Format) where
         let moved = subst (λ (z : Stream). Finished f d z o r o′) (cut-alike x y same) p in
         finish-same f one sized d t o r r′ o′ o″ b b′ moved q
 
-    -- the bits u, as far as they are held, are the payload's, then zeros
+    -- the bits u, as far as they are held, are the payload's, then zeros; so are both reordered
     held-padded : {u : ℕ → ℕ} {h : ℕ} {t : Stream} → Running f u h t → (v : List ℕ) → ((n : ℕ) → n < h → bit v n ≡ u n)
-        → (n : ℕ) → u n ≡ run (payloadPlaces (f .code)) (padded h (bit v)) zeros n
+        → (n : ℕ) → reordered f u n ≡ run (payloadPlaces (f .code)) (reordered f (padded h (bit v))) zeros n
     held-padded {u} {h} r v same n =
-        run-each (payloadPlaces (f .code)) (padded h (bit v)) zeros n (λ x. u n ≡ x)
-        (λ l. run-each h (bit v) zeros n (λ x. u n ≡ x) (λ k. sym (same n k)) (r .after n))
-        (λ l. r .after n (omega arith))
+        let m = f .first n in
+        run-each (payloadPlaces (f .code)) (reordered f (padded h (bit v))) zeros n (λ x. u m ≡ x)
+        (λ l. run-each h (bit v) zeros m (λ x. u m ≡ x) (λ k. sym (same m k)) (r .after m))
+        (λ l. r .after m (omega (arith, sized .kept n l, r .most)))
 
     -- v is the whole payload, as encode is given it, and l′ what encode wrote of it to l; o′ is what the finish wrote
     -- to o
@@ -158,8 +158,8 @@ module _ (f : Format) where
     finish-encodes {u} {h} {t} d o r o′ v l l′ x same e p w n k =
         let q = done-part (r .answer) e p .1 in
         let parity =
-        payload-parity (f .code) (padded h (bit v)) (t .checks) (q .0)
-        (λ m i. running x .checks m ∙ check-same (f .code) m u _ (λ j z. held-padded (running x) v same j)) (q .1) in
+        payload-parity (f .code) (reordered f (padded h (bit v))) (t .checks) (q .0)
+        (λ m i. running x .checks m ∙ check-same (f .code) m (reordered f u) _ (λ j z. held-padded (running x) v same j)) (q .1) in
         written-bit (q .2) n k
         ∙ sym
         (written-bit (encode-exact f one sized h v d l l′ w (q .0) parity) (h + n) (omega arith)

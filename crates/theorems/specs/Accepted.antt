@@ -1,4 +1,4 @@
--- Demand 2, paper 01, 'Verdicts', and W8 of paper 02: which full words and which line words are accepted.
+-- Demand 2, paper 01, 'Verdicts', and W2 and W8 of paper 02: which full words and which line words are accepted.
 --
 --   GoodWord f K w      w is a full word with a payload of K bits: its shortened places are 0 and every check holds
 --   GoodLine f K l d    l is a line word with a payload of K bits: some punctured bits complete it, and its delimiter
@@ -20,7 +20,7 @@ use Rattle.theorems.specs.Punctured.{Completes}
 
 pub record GoodWord (f : Format) (K : ℕ) (w : List ℕ) : Type 0 where
   pub asked : WordAsks f K w
-  pub shortened : (n : ℕ) → K ≤ n → n < payloadPlaces (f .code) → bit w n ≡ 0
+  pub shortened : (n : ℕ) → K ≤ f .first n → n < payloadPlaces (f .code) → bit w n ≡ 0
   pub all-hold : AllHold (f .code) (bit w)
 
 pub record GoodLine (f : Format) (K : ℕ) (l : List ℕ) (d : ℕ) : Type 0 where

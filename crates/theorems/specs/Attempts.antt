@@ -1,10 +1,11 @@
--- Demand 3: a stream that was reached from a fresh one by any attempts, the bits that it accepted, and its running
--- checks.
+-- Demand 3, and W2 of paper 02: a stream that was reached from a fresh one by any attempts, by one format and so by one
+-- pair of lists; the bits that it accepted, and its running checks.
 --
 --   chosen a x y        x where the answer a is Done, y where it is a refusal
 --   Reached f u h t     the stream t was reached from a fresh one, by any pieces and finishes, accepted or refused; h
 --                       is how many bits it accepted since it was last fresh, and u is these bits, followed by zeros
---   Running f u h t     what demand 3 says of such a stream: it holds h bits, and its running checks are those of u
+--   Running f u h t     what demand 3 says of such a stream: it holds h bits, and its running checks are those of u,
+--                       reordered
 --
 -- Believe this file beside the paper. Streams proves that a stream that was reached is running.
 use mathlib.Core.Path.{_≡_}
@@ -14,6 +15,7 @@ use lib.ListN.{length}
 use Rattle.rules.specs.Bits.{bit, Bytes, zeros, run}
 use Rattle.rules.specs.Matrix.{check}
 use Rattle.rules.specs.Formats.{Format}
+use Rattle.rules.specs.Words.{reordered}
 use Rattle.rules.specs.Streams.{streamBytes, fresh}
 use Rattle.rules.specs.Promises.{PieceTaken, Finished}
 use Rattle.rules.specs.declared.Answer.{Answer}
@@ -41,4 +43,4 @@ pub record Running (f : Format) (u : ℕ → ℕ) (h : ℕ) (t : Stream) : Type 
   pub after : (n : ℕ) → h ≤ n → u n ≡ 0
   pub long : length (t .checks) ≡ streamBytes
   pub bytes : Bytes (t .checks)
-  pub checks : (n : ℕ) → bit (t .checks) n ≡ check (f .code) n u
+  pub checks : (n : ℕ) → bit (t .checks) n ≡ check (f .code) n (reordered f u)

@@ -25,6 +25,6 @@ Free (t ∷ o) = (t .applies → ⊥) × Free o
 
 abbrev pub CheckAnswer : Judgement → Type 0
 CheckAnswer j =
-    ((K : ℕ) × (w : List ℕ) × WordChecked fibreFormat K w j)
-    ⊎ (((K : ℕ) × (l : List ℕ) × (d : ℕ) × LineChecked fibreFormat K l d j)
+    ((a : List ℕ) × (b : List ℕ) × (K : ℕ) × (w : List ℕ) × WordChecked (fibreFormat a b) K w j)
+    ⊎ (((a : List ℕ) × (b : List ℕ) × (K : ℕ) × (l : List ℕ) × (d : ℕ) × LineChecked (fibreFormat a b) K l d j)
     ⊎ ((k : CoaxCode) × (K : ℕ) × (w : List ℕ) × CoaxChecked k K w j))

@@ -1,4 +1,4 @@
--- Paper 01, 'Numbers': what the theorems ask of a format's sizes.
+-- Paper 01, 'Numbers', and W2 of paper 02: what the theorems ask of a format's sizes.
 --
 --   Sized f     the sizes of the format f go together:
 --     rows        there are no more block rows than block columns
@@ -6,10 +6,11 @@
 --     some        a payload has at least one bit
 --     most        the longest payload fits the payload places
 --     sent        no more parity places are sent than there are
+--     kept        the first reordering is one of the payload places: it keeps all from there on
 --
 -- Believe this file beside the paper. Fibre proves it of the fibre code's format, and Coax of the coax codes'.
 use mathlib.Core.Path.{_≡_}
-use Prim.Native.Nat.{_%_, _≤_, _<_}
+use Prim.Native.Nat.{ℕ, _%_, _≤_, _<_}
 use Rattle.rules.specs.Matrix.{checks, payloadPlaces}
 use Rattle.rules.specs.Formats.{Format}
 
@@ -19,3 +20,4 @@ pub record Sized (f : Format) : Type 0 where
   pub some : 0 < f .least
   pub most : f .most ≤ payloadPlaces (f .code)
   pub sent : f .sent ≤ checks (f .code)
+  pub kept : (t : ℕ) → payloadPlaces (f .code) ≤ t → f .first t ≡ t

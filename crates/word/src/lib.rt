@@ -1,13 +1,15 @@
-// Full words of the fibre code: check one, from any decoder, and complete one's parity in place.
+// Full words of the fibre code, in inner order: check one, from any decoder, and complete one's parity in place.
 ghost use mathlib.Core.Path.{_≡_};
+ghost use Prim.Native.Nat.{_≤_};
 ghost use lib.ListN.{length};
 ghost use Rattle.rules.specs.Bits.{bit, need};
-ghost use Rattle.rules.specs.Matrix.{places};
+ghost use Rattle.rules.specs.Lists.{Listed};
+ghost use Rattle.rules.specs.Matrix.{places, payloadPlaces};
 ghost use Rattle.rules.specs.Table.{fibre};
 ghost use Rattle.rules.specs.Formats.{fibreFormat};
 ghost use Rattle.rules.specs.Verdicts.{WordVerdict};
-ghost use Rattle.rules.specs.Asked.{WordAsks};
 ghost use Rattle.rules.specs.Promises.{Completion, Completed, WordChecked};
+ghost use Rattle.rules.specs.Terms.{byFirst};
 use rules::Answer;
 use rules::Cause;
 use rules::Judgement;
@@ -16,11 +18,14 @@ use rules::fibre;
 
 // The verdict on a full word: shortened places come first, then the checks. The running checks of all blocks are the
 // checks themselves: where none is 1 the word is accepted with no scan, and else their ones are the failing rows.
-fn judge(count: usize, word: &[u8]) -> Verdict
-    requires { ⌜ WordAsks fibreFormat count (now word) ⌝ }
-    ensures { λ r. ⌜ WordVerdict fibre count (bit (now (word .entry))) r ⌝ }
+fn judge(count: usize, word: &[u8], first: &[u8]) -> Verdict
+    requires { ⌜
+        (count ≤ payloadPlaces fibre) × (length (now word) ≡ need (places fibre))
+        × Listed (payloadPlaces fibre) (now first)
+        ⌝ }
+    ensures { λ r. ⌜ WordVerdict (byFirst (now (first .entry))) count (bit (now (word .entry))) r ⌝ }
 {
-    let place = bits::first_set(word, count, fibre::PAYLOAD_PLACES);
+    let place = lists::first_shortened(count, word, first);
     if place < fibre::PAYLOAD_PLACES {
         return Verdict::Rejected(Cause::Shortened(place));
     }
@@ -38,14 +43,16 @@ fn judge(count: usize, word: &[u8]) -> Verdict
 }
 
 // Checks a full word with so many payload bits.
-pub fn check(count: usize, word: &[u8]) -> Judgement
-    ensures { λ r. ⌜ WordChecked fibreFormat count (now (word .entry)) r ⌝ }
+pub fn check(count: usize, word: &[u8], first: &[u8], second: &[u8]) -> Judgement
+    ensures { λ r. ⌜
+        WordChecked (fibreFormat (now (first .entry)) (now (second .entry))) count (now (word .entry)) r
+        ⌝ }
 {
-    let refusal = refusals::check_word(count, word);
+    let refusal = refusals::check_word(count, word, first, second);
     if refusal != 0 {
         return Judgement::Refused(refusal);
     }
-    Judgement::Judged(judge(count, word))
+    Judgement::Judged(judge(count, word, first))
 }
 
 // Writes the parity of a full word: only the part from byte 1,824 on, its parity, is lent to be written.
@@ -59,10 +66,13 @@ fn write_parity(word: &mut [u8])
 }
 
 // Completes a full word with so many payload bits.
-pub fn complete(count: usize, word: &mut [u8]) -> Answer
-    ensures { λ r. ⌜ Completed fibreFormat count (now (word .entry)) r (now (word .exit)) ⌝ }
+pub fn complete(count: usize, word: &mut [u8], first: &[u8], second: &[u8]) -> Answer
+    ensures { λ r. ⌜
+        Completed (fibreFormat (now (first .entry)) (now (second .entry))) count (now (word .entry)) r
+        (now (word .exit))
+        ⌝ }
 {
-    let refusal = refusals::complete(count, word);
+    let refusal = refusals::complete(count, word, first, second);
     if refusal != 0 {
         return Answer::Refused(refusal);
     }

@@ -9,7 +9,7 @@ use native.Mathlib.Decide.{decLt}
 use native.Mathlib.Omega.{arith}
 use Rattle.rules.specs.Bits.{bit, placed, Adds}
 use Rattle.rules.specs.Formats.{Format}
-use Rattle.rules.specs.Words.{digit, tail, tailBits}
+use Rattle.rules.specs.Words.{digit, outgoing, tail, tailBits}
 use Rattle.laws.proofs.Adds.{adds-join, adds-as}
 use Rattle.laws.proofs.Bits.{bit-digit}
 use Rattle.laws.proofs.Numbers.{digit-low, digit-right}
@@ -33,13 +33,15 @@ digits-right d t h = elim (decLt t 8) [
 ]
 
 module _ (f : Format) (few : f .delimiter ≤ 16) (p : List ℕ) (d : ℕ) where
-  pub tail-added : {s t u : List ℕ} (at : ℕ) → Adds s t (placed at (f .sent) (λ k. bit p (0 + k)))
+  -- q are the sent bits of p
+  pub tail-added : {s t u : List ℕ} (q : List ℕ) (at : ℕ) → ((k : ℕ) → k < f .sent → bit q k ≡ outgoing f p k)
+      → Adds s t (placed at (f .sent) (λ k. bit q (0 + k)))
       → Adds t u (placed (at + f .sent) (f .delimiter) (λ k. bit (digitBytes d) (0 + k)))
       → Adds s u (placed at (tailBits f) (tail f p d))
-  tail-added at a b =
+  tail-added q at sent a b =
       adds-join at (f .sent) (f .delimiter) (tail f p d)
       (adds-as (placed-same at (f .sent) _ _
-      (λ k l. let z : 0 + k ≡ k = omega arith in rw z (sym (tail-low f p d k l)))) a)
+      (λ k l. let z : 0 + k ≡ k = omega arith in rw z (sent k l ∙ sym (tail-low f p d k l)))) a)
       (adds-as (placed-same (at + f .sent) (f .delimiter) _ _
       (λ k l. let z : 0 + k ≡ k = omega arith in
       rw z (digits-right d k (omega arith) ∙ sym (tail-high f p d k l)))) b)

@@ -15,7 +15,7 @@ returns : tie.Need-returns
 returns c =
     let tested = c .before in
     let a = tested .before .before .before .args in
-    let told = tested .piece .ensures (coaxFormat (a .code)) (sym (tested .before .payload-places .ensures)) in
+    let told = tested .piece-alone .ensures (coaxFormat (a .code)) (sym (tested .before .payload-places .ensures)) in
     search needs
 
 slice-aggregate-feed : tie.Need-slice-aggregate-feed
@@ -27,7 +27,7 @@ feed-requires c κs =
     let tested = passed .before in
     let a = tested .before .before .before .args in
     let f = coaxFormat (a .code) in
-    let told = tested .piece .ensures f (sym (tested .before .payload-places .ensures)) in
+    let told = tested .piece-alone .ensures f (sym (tested .before .payload-places .ensures)) in
     let long : streamBytes ≡ length (a .stream .checks) = slice-aggregate-feed c in (
       omega (arith, long, coax-numbers (a .code) .size),
       piece-asked f (passed .if1 .left) (a .stream .held) (a .count) (a .bytes .now) told,
@@ -39,7 +39,7 @@ returns-2 c =
     let passed = c .before .before .before .before in
     let tested = passed .before in
     let f = coaxFormat (tested .before .before .before .args .code) in
-    done-promise (tested .piece .ensures f (sym (tested .before .payload-places .ensures))) (passed .if1 .left)
+    done-promise (tested .piece-alone .ensures f (sym (tested .before .payload-places .ensures))) (passed .if1 .left)
     record { held = fed .ensures .0; checks = fed .ensures .1 }
 
 pub piece-spec : {M : Type 1} → statement M

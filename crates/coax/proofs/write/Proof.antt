@@ -66,7 +66,8 @@ returns c =
           (payload-parity k (bit u) _ p (λ m h. told .payload-checks .ensures m) (found .solve .ensures)),
       rw (copied .copy .ensures, rest)
           (line-joined u p (a .word .now) (length u) (checks k) refl (found .solve .ensures .packed)
-          (omega (arith, n .parts, n .whole)) (coaxFormat (a .code)) (a .count) 0 (omega (arith, n .whole)) refl refl),
+          (omega (arith, n .parts, n .whole)) (coaxFormat (a .code)) (a .count) 0 (λ t. refl)
+          (omega (arith, n .whole)) refl refl),
     )
 
 pub write-spec : {M : Type 1} → statement M

@@ -23,7 +23,8 @@ returns c =
       p,
       found .solve .ensures,
       rw (told .needed .ensures, told .before .checks .ensures)
-          (tail-joined (coaxFormat (s .args .code)) p (s .args .tail .now) 0 (found .solve .ensures .packed) (s .pre .1)
+          (tail-joined (coaxFormat (s .args .code)) p (s .args .tail .now) 0 (λ t. refl)
+          (found .solve .ensures .packed) (s .pre .1)
           refl),
     )
 

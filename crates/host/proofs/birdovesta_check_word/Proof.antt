@@ -6,8 +6,8 @@ use Rattle.host.proofs.birdovesta_check_word.Tie as tie
 
 judgement-number-requires : tie.Need-judgement-number-requires
 judgement-number-requires c κs =
-    let a = c .before .before .args in
-    word-fits (a .bits) (a .word .now) (c .check .result) (c .check .ensures)
+    let a = c .before .before .before .before .args in
+    word-fits (a .first .now) (a .second .now) (a .bits) (a .word .now) (c .check .result) (c .check .ensures)
 
 returns : tie.Need-returns
 returns c =

@@ -8,8 +8,9 @@ use Rattle.line.proofs.check.Tie as tie
 
 judge-requires : tie.Need-judge-requires
 judge-requires c κs =
-    let a = c .before .before .before .args in
-    line-asked fibreFormat (c .if1 .left) (a .count) (a .line .now) (a .delimiter) (c .before .check-line .ensures)
+    let a = c .before .before .before .before .before .args in
+    line-asked (fibreFormat (a .first .now) (a .second .now)) (c .if1 .left) (a .count) (a .line .now) (a .delimiter)
+    (c .before .check-line .ensures)
 
 returns-2 : tie.Need-returns-2
 returns-2 c = judged-checked (c .before .before .check-line .ensures) (c .before .if1 .left) (c .judge .ensures)

@@ -10,9 +10,9 @@ use Rattle.line.proofs.encode.Tie as tie
 write-requires : tie.Need-write-requires
 write-requires c κs =
     let tested = c .before .before in
-    let a = tested .before .before .before .args in
-    encode-asked fibreFormat (c .before .if1 .left) (a .count) (a .payload .now) (a .delimiter) (length (a .line .now))
-    (tested .encode .ensures)
+    let a = tested .before .before .before .before .before .args in
+    encode-asked (fibreFormat (a .first .now) (a .second .now)) (c .before .if1 .left) (a .count) (a .payload .now)
+    (a .delimiter) (length (a .line .now)) (tested .encode .ensures)
 
 returns-2 : tie.Need-returns-2
 returns-2 c =

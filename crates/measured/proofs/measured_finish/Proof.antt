@@ -17,8 +17,9 @@ returns-2 c =
     let did = after .finish in
     let made = after .before .before .stream-of in
     let test = after .before .before .before .before in
-    let a = test .before .before .before .args in
-    lent-handed (λ t o. Finished fibreFormat (a .delimiter) t (a .tail .now) o (did .last .1 .1 .0))
+    let a = test .before .before .before .before .before .args in
+    let f = fibreFormat (a .first .now) (a .second .now) in
+    lent-handed (λ t o. Finished f (a .delimiter) t (a .tail .now) o (did .last .1 .1 .1 .1 .0))
     (a .held) _ (a .checks .now) _ _ (made .result) (did .result) (test .if1 .left) (made .ensures) (did .ensures)
     (c .before .before .hand-back .ensures)
 

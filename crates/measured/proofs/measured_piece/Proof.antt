@@ -16,8 +16,9 @@ returns-2 c =
     let did = c .before .before .before .before .piece in
     let made = c .before .before .before .before .before .stream-of in
     let test = c .before .before .before .before .before .before .before in
-    let a = test .before .before .before .args in
-    lent-handed (PieceTaken fibreFormat (a .count) (a .bytes .now))
+    let a = test .before .before .before .before .before .args in
+    let f = fibreFormat (a .first .now) (a .second .now) in
+    lent-handed (PieceTaken f (a .count) (a .bytes .now))
     (a .held) _ (a .checks .now) _ _ (made .result) (did .result) (test .if1 .left) (made .ensures) (did .ensures)
     (c .before .before .hand-back .ensures)
 

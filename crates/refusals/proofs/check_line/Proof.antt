@@ -15,19 +15,22 @@ returns c =
     let second = third .before in
     let tenth = second .before .before in
     let first = tenth .before in
-    let a = first .before .before .before .args in
-    let order = lineOrder fibreFormat (a .count) (a .line .now) (a .delimiter) in
+    let sixteenth = first .before in
+    let a = sixteenth .before .before .before .before .before .args in
+    let f = fibreFormat (a .first .now) (a .second .now) in
+    let order = lineOrder f (a .count) (a .line .now) (a .delimiter) in
     told-tested order tt (c .first-told .ensures)
-    (test (first .outside .ensures) (λ good.
-    let e = first .before .lowered .ensures .1 (not-above _ _ (λ l. good (inr l))) in
+    (test (sixteenth .bad-lists .ensures) (λ listed.
+    test (first .outside .ensures) (λ good.
+    let e = sixteenth .before .lowered .ensures .1 (not-above _ _ (λ l. good (inr l))) in
     test (tenth .differs .ensures) (λ whole.
     test (rw (second .before .needed .ensures, e) at (second .differs2 .ensures)) (λ bytes.
     test ((rw e at (third .unused-set .ensures)) (not-different _ _ bytes)) (λ unused.
-    test (fourth .above .ensures) (λ small. none))))))
+    test (fourth .above .ensures) (λ small. none)))))))
 
 pub check-line-spec : {M : Type 1} → statement M
 check-line-spec =
     tie.close
-    (tie.spec (λ c κs. search needs) (λ c. search needs) (λ c κs. search needs) (λ c κs. search needs)
+    (tie.spec (λ c κs. search needs) (λ c. search needs) (λ c κs. search needs) (λ c κs. search needs) (λ c κs. search needs)
     (λ c κs. search needs) (λ c κs. search needs) (λ c κs. search needs) (λ c κs. search needs) (λ c. search needs)
     (λ c κs. search needs) returns)

@@ -11,14 +11,16 @@ returns c =
     let second = c .before .before in
     let tenth = second .before .before in
     let first = tenth .before in
-    let a = first .before .before .args in
-    told-tested (wordOrder fibreFormat (a .count) (a .word .now)) tt (c .first-told .ensures)
-    (test (first .outside .ensures) (λ good.
+    let sixteenth = first .before in
+    let a = sixteenth .before .before .before .before .args in
+    told-tested (wordOrder (fibreFormat (a .first .now) (a .second .now)) (a .count) (a .word .now)) tt (c .first-told .ensures)
+    (test (sixteenth .bad-lists .ensures) (λ listed.
+    test (first .outside .ensures) (λ good.
     test (tenth .differs .ensures) (λ whole.
-    test (rw (second .before .needed .ensures) at (second .differs2 .ensures)) (λ bytes. none))))
+    test (rw (second .before .needed .ensures) at (second .differs2 .ensures)) (λ bytes. none)))))
 
 pub check-word-spec : {M : Type 1} → statement M
 check-word-spec =
     tie.close
-    (tie.spec (λ c κs. search needs) (λ c κs. search needs) (λ c κs. search needs) (λ c κs. search needs)
+    (tie.spec (λ c κs. search needs) (λ c κs. search needs) (λ c κs. search needs) (λ c κs. search needs) (λ c κs. search needs)
     (λ c. search needs) (λ c κs. search needs) returns)

@@ -1,28 +1,36 @@
--- `refusals::complete` meets its contract: its tests stand in the order of the definition.
+-- `refusals::complete` meets its contract: the order of the full-word check, and then refusal 8.
 use borrow.Author.Needs.{needs}
+use mathlib.Core.List.{[], _∷_}
 use native.Mathlib.Omega.{arith}
 use Rattle.rules.specs.Formats.{fibreFormat}
-use Rattle.rules.specs.Refusals.{completeOrder}
-use Rattle.laws.proofs.Told.{none, test, told-tested, not-different}
+use Rattle.rules.specs.Refusals.{wordOrder, someShortened}
+use Rattle.laws.proofs.Asked.{word-asked}
+use Rattle.laws.proofs.Told.{told-more, told-next}
 use Rattle.refusals.proofs.complete.Statement.{statement}
 use Rattle.refusals.proofs.complete.Tie as tie
 
 returns : tie.Need-returns
 returns c =
-    let eighth = c .before .before in
-    let second = eighth .before in
-    let tenth = second .before .before in
-    let first = tenth .before in
-    let a = first .before .before .args in
-    told-tested (completeOrder fibreFormat (a .count) (a .word .now)) tt (c .first-told .ensures)
-    (test (first .outside .ensures) (λ good.
-    test (tenth .differs .ensures) (λ whole.
-    test (rw (second .before .needed .ensures) at (second .differs2 .ensures)) (λ bytes.
-    let long = not-different _ _ bytes in
-    test (eighth .shortened-set .ensures (omega arith)) (λ clear. none)))))
+    let a = c .before .before .before .before .before .args in
+    let f = fibreFormat (a .first .now) (a .second .now) in
+    told-more (wordOrder f (a .count) (a .word .now)) (someShortened f (a .count) (a .word .now) ∷ []) _
+    (c .if1 .taken) (c .before .check-word .ensures)
+
+shortened-set-requires : tie.Need-shortened-set-requires
+shortened-set-requires c κs =
+    let a = c .before .before .before .before .before .args in
+    let f = fibreFormat (a .first .now) (a .second .now) in
+    let asked = word-asked f (c .if1 .left) (a .count) (a .word .now) (c .before .check-word .ensures) in
+    (omega (arith, asked .count .most), asked .bytes, asked .lists .0)
+
+returns-2 : tie.Need-returns-2
+returns-2 c =
+    let tested = c .before in
+    let a = tested .before .before .before .before .before .args in
+    let f = fibreFormat (a .first .now) (a .second .now) in
+    told-next (wordOrder f (a .count) (a .word .now)) (someShortened f (a .count) (a .word .now) ∷ []) tt
+    (tested .if1 .left) (tested .before .check-word .ensures) _ (c .shortened-set .ensures)
 
 pub complete-spec : {M : Type 1} → statement M
 complete-spec =
-    tie.close
-    (tie.spec (λ c κs. search needs) (λ c κs. search needs) (λ c κs. search needs) (λ c κs. search needs)
-    (λ c κs. search needs) (λ c. search needs) (λ c κs. search needs) returns)
+    tie.close (tie.spec (λ c κs. search needs) returns shortened-set-requires returns-2)

@@ -13,16 +13,18 @@ returns c =
     let tenth = fourth .before in
     let first = tenth .before in
     let seventh = first .before in
-    let a = seventh .before .args in
-    told-tested (finishOrder fibreFormat (a .held) (a .delimiter) (a .room)) tt (c .first-told .ensures)
-    (test (seventh .above .ensures) (λ held.
+    let sixteenth = seventh .before in
+    let a = sixteenth .before .before .before .args in
+    told-tested (finishOrder (fibreFormat (a .first .now) (a .second .now)) (a .held) (a .delimiter) (a .room)) tt (c .first-told .ensures)
+    (test (sixteenth .bad-lists .ensures) (λ listed.
+    test (seventh .above .ensures) (λ held.
     test (first .outside .ensures) (λ good.
     test (tenth .differs .ensures) (λ whole.
     test (fourth .above2 .ensures) (λ small.
-    test (fifth .above3 .ensures) (λ room. none))))))
+    test (fifth .above3 .ensures) (λ room. none)))))))
 
 pub finish-spec : {M : Type 1} → statement M
 finish-spec =
     tie.close
-    (tie.spec (λ c κs. search needs) (λ c κs. search needs) (λ c κs. search needs) (λ c κs. search needs)
+    (tie.spec (λ c κs. search needs) (λ c κs. search needs) (λ c κs. search needs) (λ c κs. search needs) (λ c κs. search needs)
     (λ c κs. search needs) (λ c. search needs) (λ c κs. search needs) returns)

@@ -1,26 +1,26 @@
--- `refusals::piece` meets its contract: its tests stand in the order of the definition.
+-- `refusals::piece` meets its contract: refusal 16, and then what a piece asks alone.
 use borrow.Author.Needs.{needs}
-use mathlib.Core.Path.{sym}
-use Rattle.rules.specs.Refusals.{pieceOrder}
-use Rattle.laws.proofs.Told.{none, test, told-tested, not-different}
+use mathlib.Core.Path.{refl}
+use Rattle.rules.specs.Formats.{fibreFormat}
+use Rattle.rules.specs.Refusals.{ofLists, ofPiece}
+use Rattle.laws.proofs.Told.{told-more, told-next}
 use Rattle.refusals.proofs.piece.Statement.{statement}
 use Rattle.refusals.proofs.piece.Tie as tie
 
 returns : tie.Need-returns
-returns c f e =
-    let sixth = c .before .before in
-    let third = sixth .before in
-    let second = third .before in
-    let seventh = second .before .before in
-    let a = seventh .before .before .args in
-    told-tested (pieceOrder f (a .held) (a .count) (a .bytes .now)) tt (c .first-told .ensures)
-    (test (rw (sym e) at (seventh .above .ensures)) (λ held.
-    test (rw (second .before .needed .ensures) at (second .differs .ensures)) (λ bytes.
-    test (third .unused-set .ensures (not-different _ _ bytes)) (λ unused.
-    test (rw (sym e) at (sixth .above-with .ensures)) (λ fits. none)))))
+returns c =
+    let a = c .before .before .before .before .before .args in
+    let f = fibreFormat (a .first .now) (a .second .now) in
+    told-more (ofLists f) (ofPiece f (a .held) (a .count) (a .bytes .now)) _ (c .if1 .taken)
+    (c .before .bad-lists .ensures)
+
+returns-2 : tie.Need-returns-2
+returns-2 c =
+    let tested = c .before in
+    let a = tested .before .before .before .before .before .args in
+    let f = fibreFormat (a .first .now) (a .second .now) in
+    told-next (ofLists f) (ofPiece f (a .held) (a .count) (a .bytes .now)) tt (tested .if1 .left)
+    (tested .before .bad-lists .ensures) _ (c .piece-alone .ensures f refl)
 
 pub piece-spec : {M : Type 1} → statement M
-piece-spec =
-    tie.close
-    (tie.spec (λ c κs. search needs) (λ c κs. search needs) (λ c κs. search needs) (λ c κs. search needs)
-    (λ c κs. search needs) (λ c. search needs) (λ c κs. search needs) returns)
+piece-spec = tie.close (tie.spec (λ c κs. search needs) returns (λ c κs. search needs) returns-2)

@@ -10,10 +10,13 @@ use Rattle.stream.proofs.finish.Tie as tie
 write-tail-requires : tie.Need-write-tail-requires
 write-tail-requires c κs =
     let passed = c .before .before .before in
-    let a = passed .before .before .before .args in
-    let asked = finish-asked fibreFormat (passed .if1 .left) (a .stream .held) (a .delimiter) (length (a .tail .now))
+    let start = passed .before .before .before .before .before in
+    let good = start .good .0 in
+    let a = start .args in
+    let f = fibreFormat (a .first .now) (a .second .now) in
+    let asked = finish-asked f (passed .if1 .left) (a .stream .held) (a .delimiter) (length (a .tail .now))
     (passed .before .finish .ensures) in
-    (search needs, asked .fits)
+    (search needs, asked .lists .1, asked .fits)
 
 returns-2 : tie.Need-returns-2
 returns-2 c =

@@ -1,6 +1,5 @@
 -- `stream::piece` meets its contract.
 use borrow.Author.Needs.{needs}
-use mathlib.Core.Path.{refl}
 use Rattle.rules.specs.Formats.{fibreFormat}
 use Rattle.laws.proofs.Asked.{piece-asked}
 use Rattle.laws.proofs.Told.{done-promise}
@@ -10,20 +9,22 @@ use Rattle.stream.proofs.piece.Tie as tie
 feed-requires : tie.Need-feed-requires
 feed-requires c κs =
     let passed = c .before .before in
-    let a = passed .before .before .before .args in
-    let told = passed .before .piece .ensures fibreFormat refl in
-    (search needs, piece-asked fibreFormat (passed .if1 .left) (a .stream .held) (a .count) (a .bytes .now) told)
-
-returns : tie.Need-returns
-returns c = let told = c .before .piece .ensures fibreFormat refl in search needs
+    let start = passed .before .before .before .before .before in
+    let good = start .good .0 in
+    let a = start .args in
+    let f = fibreFormat (a .first .now) (a .second .now) in
+    let asked = piece-asked f (passed .if1 .left) (a .stream .held) (a .count) (a .bytes .now)
+    (passed .before .piece .ensures) in
+    (search needs, asked .most, asked .piece, asked .lists .0)
 
 returns-2 : tie.Need-returns-2
 returns-2 c =
     let fed = c .before .feed in
     let passed = c .before .before .before .before in
-    done-promise (passed .before .piece .ensures fibreFormat refl) (passed .if1 .left)
+    done-promise (passed .before .piece .ensures) (passed .if1 .left)
     record { held = fed .ensures .0; checks = fed .ensures .1 }
 
 pub piece-spec : {M : Type 1} → statement M
 piece-spec =
-    tie.close (tie.spec (λ c κs. search needs) returns (λ c. search needs) feed-requires returns-2)
+    tie.close
+    (tie.spec (λ c κs. search needs) (λ c. search needs) (λ c. search needs) feed-requires returns-2)

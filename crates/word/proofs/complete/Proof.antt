@@ -9,8 +9,9 @@ use Rattle.word.proofs.complete.Tie as tie
 write-parity-requires : tie.Need-write-parity-requires
 write-parity-requires c κs =
     let tested = c .before .before in
-    let a = tested .before .before .before .args in
-    complete-asked fibreFormat (c .before .if1 .left) (a .count) (a .word .now) (tested .complete .ensures) .bytes
+    let a = tested .before .before .before .before .before .args in
+    let f = fibreFormat (a .first .now) (a .second .now) in
+    complete-asked f (c .before .if1 .left) (a .count) (a .word .now) (tested .complete .ensures) .bytes
 
 returns-2 : tie.Need-returns-2
 returns-2 c =

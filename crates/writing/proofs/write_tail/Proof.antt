@@ -3,8 +3,9 @@ use borrow.Author.Needs.{needs}
 use mathlib.Core.Path.{refl}
 use native.Mathlib.Omega.{arith}
 use Rattle.rules.specs.Bits.{need}
-use Rattle.rules.specs.Formats.{fibreFormat}
+use Rattle.rules.specs.Formats.{fibreKept}
 use Rattle.rules.specs.Words.{tailBits}
+use Rattle.rules.specs.Terms.{bySecond}
 use Rattle.writing.proofs.Line.{written-cleared, tail-written}
 use Rattle.writing.proofs.write_tail.Statement.{statement}
 use Rattle.writing.proofs.write_tail.Tie as tie
@@ -13,10 +14,10 @@ returns : tie.Need-returns
 returns c =
     let known = c .before .before .before .before in
     let cleared = known .before .before in
-    let a = cleared .before .before .before .before .args in
-    let bits = tailBits fibreFormat in
+    let a = cleared .before .before .before .before .before .args in
+    let bits = tailBits fibreKept in
     tail-written (a .to .now) _ _ (λ i. known .slice-known2 .given i .fits) (λ i. c .slice-known3 .given i .fits)
-    fibreFormat (a .parity .now) (a .delimiter)
+    (bySecond (a .second .now)) (a .parity .now) (a .delimiter)
     (written-cleared bits (a .to .now) _ (need bits) refl (omega arith) (cleared .clear .ensures))
     (c .before .before .add-tail .ensures)
 
