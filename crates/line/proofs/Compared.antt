@@ -1,6 +1,7 @@
 -- The tail of a line word compared with the encoder's, as paper 01's verdicts say it.
 --
 --   difference-as       compared with equal bits
+--   bytes-differ        compared with bytes is compared with the bits that they have
 --   difference-lowest   where two runs of bits first differ
 --   difference-none     where they do not
 --   digits-differ       compared with the delimiter's bytes is compared with the delimiter
@@ -29,8 +30,10 @@ module _ {x y : ℕ → ℕ} {b r : ℕ} (f : FirstDifference x y b r) where
   pub difference-none : b ≤ r → Nowhere (Differs x y b)
   difference-none h n d = d .1 (f .same n (omega (arith, d .0)))
 
+pub bytes-differ : {x : ℕ → ℕ} {b r : ℕ} (s : List ℕ) (z : ℕ → ℕ) → ((n : ℕ) → n < b → bit s n ≡ z n)
+    → FirstDifference x (λ n. bit s (0 + n)) b r → FirstDifference x z b r
+bytes-differ s z e f = difference-as f z (λ n l. let at : 0 + n ≡ n = omega arith in rw at (e n l))
+
 pub digits-differ : {x : ℕ → ℕ} {s : List ℕ} {b r : ℕ} (d : ℕ) → b ≤ 16 → s ≡ digitBytes d
     → FirstDifference x (λ n. bit s (0 + n)) b r → FirstDifference x (digit d) b r
-digits-differ d h e f =
-    difference-as f (digit d)
-    (λ n l. let z : 0 + n ≡ n = omega arith in rw (z, e) (digits-right d n (omega arith)))
+digits-differ {s = s} d h e = bytes-differ s (digit d) (λ n l. rw e (digits-right d n (omega arith)))

@@ -122,7 +122,7 @@ module _ (k : CoaxCode) where
   module _ (one : OneParity (coaxCode k)) where
     pub coax-encode-same : (K : ℕ) (u o : List ℕ) (a b : Answer) (o′ o″ : List ℕ) → Bytes o′ → Bytes o″
         → CoaxEncoded k K u o a o′ → CoaxEncoded k K u o b o″ → (a ≡ b) × (o′ ≡ o″)
-    coax-encode-same K u o = written-line-same f one (coax-sized k) (coaxEncodeOrder f K u (length o)) K u 0 o
+    coax-encode-same K u o = written-line-same f one (coaxEncodeOrder f K u (length o)) K u 0 o
 
     pub coax-complete-same : (K : ℕ) (w : List ℕ) (a b : Answer) (w′ w″ : List ℕ) → Bytes w′ → Bytes w″
         → CoaxCompleted k K w a w′ → CoaxCompleted k K w b w″ → (a ≡ b) × (w′ ≡ w″)
@@ -130,7 +130,7 @@ module _ (k : CoaxCode) where
 
     pub coax-finish-same : (t : Stream) (o : List ℕ) (r r′ : Outcome) (o′ o″ : List ℕ) → Bytes o′ → Bytes o″
         → CoaxFinished k t o r o′ → CoaxFinished k t o r′ o″ → (r ≡ r′) × (o′ ≡ o″)
-    coax-finish-same t o = finished-same f one (coax-sized k) (coaxFinishOrder f (t .held) (length o)) 0 t o
+    coax-finish-same t o = finished-same f one (coaxFinishOrder f (t .held) (length o)) 0 t o
 
   pub coax-check-same : (K : ℕ) (w : List ℕ) (j j′ : Judgement) → CoaxChecked k K w j → CoaxChecked k K w j′ → j ≡ j′
   coax-check-same K w =

@@ -60,7 +60,7 @@ module _ (a b : List ℕ) (K : ℕ) (u : List ℕ) (d : ℕ) (o : List ℕ) wher
   pub host-encode-same : (r s : ℕ) (o′ o″ : List ℕ) → Bytes o′ → Bytes o″ → HostEncoded a b K u d o r o′
       → HostEncoded a b K u d o s o″ → (r ≡ s) × (o′ ≡ o″)
   host-encode-same r s o′ o″ h h′ x y =
-      let same = encode-same (fibreFormat a b) fibre-one (fibre-sized a b) K u d o (x .answer) (y .answer) in
+      let same = encode-same (fibreFormat a b) fibre-one K u d o (x .answer) (y .answer) in
       let e = same o′ o″ h h′ (x .promised) (y .promised) in
       (x .result ∙ ap refusalOf (e .0) ∙ sym (y .result), e .1)
 
@@ -119,7 +119,7 @@ module _ (a b : List ℕ) (K : ℕ) (w : List ℕ) where
 module _ (a b : List ℕ) (K : ℕ) (l : List ℕ) (d : ℕ) where
   pub host-line-same : (r s : ℕ) → HostLine a b K l d r → HostLine a b K l d s → r ≡ s
   host-line-same r s x y =
-      let same = line-check-same (fibreFormat a b) fibre-one (fibre-sized a b) K l d (x .judgement) (y .judgement) in
+      let same = line-check-same (fibreFormat a b) fibre-one K l d (x .judgement) (y .judgement) in
       x .result ∙ ap judgementNumber (same (x .checked) (y .checked)) ∙ sym (y .result)
 
   module _ (r : ℕ) (x : HostLine a b K l d r) where

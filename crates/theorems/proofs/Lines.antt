@@ -125,7 +125,7 @@ module _ (f : Format) (one : OneParity (f .code)) (sized : Sized f) where
     pub line-accepted : (j : Judgement) → LineChecked f K l d j → Exactly (j ≡ Judged Accepted) (GoodLine f K l d)
     line-accepted j x = (
       λ e. line-good (subst (LineChecked f K l d) e x),
-      λ g. line-check-same f one sized K l d j (Judged Accepted) x (good-line g),
+      λ g. line-check-same f one K l d j (Judged Accepted) x (good-line g),
     )
 
   -- what encode wrote to o, as the line check is given it: the bytes of the line word, and no more
@@ -173,7 +173,7 @@ module _ (f : Format) (one : OneParity (f .code)) (sized : Sized f) where
 
     pub encode-exact : (q : List ℕ) → Parity (f .code) (reordered f (padded K (bit u))) q
         → Written (lineBits f K) (lineWord f K (bit u) q d) o o′
-    encode-exact q h = written-as (λ n i. line-one f one sized K u p q d (e .effect .1) h n) (e .effect .2)
+    encode-exact q h = written-as (λ n i. line-one f one K u p q d (e .effect .1) h n) (e .effect .2)
 
     -- a line word k with the same payload, that the line check accepts, is the one that encode wrote
     module _ (k : List ℕ) (bytes : Bytes k) (bytes′ : Bytes o′) (same : (n : ℕ) → n < K → bit k n ≡ bit u n)

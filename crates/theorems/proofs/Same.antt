@@ -35,7 +35,6 @@ use Rattle.laws.proofs.Told.{promise-same, checked-same}
 use Rattle.laws.proofs.Judged.{word-same, line-same}
 use Rattle.laws.proofs.Tails.{tail-same}
 use Rattle.laws.proofs.Parities.{OneParity, own-same, parity-bits-one, payload-one}
-use Rattle.theorems.specs.Sized.{Sized}
 
 -- the second part of bytes is bytes
 bytes-back : (s t : List ℕ) → Bytes (s ++ t) → Bytes t
@@ -106,67 +105,67 @@ module _ (f : Format) where
         → Completed f K w a w′ → Completed f K w b w″ → (a ≡ b) × (w′ ≡ w″)
     complete-same K w = completion-same (completeOrder f K w) w
 
-    module _ (sized : Sized f) where
-      -- the sent bits of a payload's parity are single
-      sent-one : (x : ℕ → ℕ) (p q : List ℕ) → Parity (f .code) x p → Parity (f .code) x q → (n : ℕ) → n < f .sent
-          → outgoing f p n ≡ outgoing f q n
-      sent-one x p q a b n h = parity-bits-one (f .code) one x p q a b (f .second n)
+    -- the sent bits of a payload's parity are single
+    sent-one : (x : ℕ → ℕ) (p q : List ℕ) → Parity (f .code) x p → Parity (f .code) x q → (n : ℕ) → n < f .sent
+        → outgoing f p n ≡ outgoing f q n
+    sent-one x p q a b n h = parity-bits-one (f .code) one x p q a b (f .second n)
 
-      pub line-one : (K : ℕ) (u p q : List ℕ) (d : ℕ) → Parity (f .code) (reordered f (padded K (bit u))) p
-          → Parity (f .code) (reordered f (padded K (bit u))) q → (n : ℕ) → lineWord f K (bit u) p d n ≡ lineWord f K (bit u) q d n
-      line-one K u p q d a b =
-          run-same K (bit u) (tail f p d) (bit u) (tail f q d) (λ n l. refl)
-          (tail-same f p q d (sent-one (reordered f (padded K (bit u))) p q a b))
+    pub line-one : (K : ℕ) (u p q : List ℕ) (d : ℕ) → Parity (f .code) (reordered f (padded K (bit u))) p
+        → Parity (f .code) (reordered f (padded K (bit u))) q → (n : ℕ)
+        → lineWord f K (bit u) p d n ≡ lineWord f K (bit u) q d n
+    line-one K u p q d a b =
+        run-same K (bit u) (tail f p d) (bit u) (tail f q d) (λ n l. refl)
+        (tail-same f p q d (sent-one (reordered f (padded K (bit u))) p q a b))
 
-      pub written-line-same : (q : List Refusal) (K : ℕ) (u : List ℕ) (d : ℕ) (o : List ℕ) (a b : Answer)
-          (o′ o″ : List ℕ) → Bytes o′ → Bytes o″ → Promise q a (LineWritten f K u d o o′) (o′ ≡ o)
-          → Promise q b (LineWritten f K u d o o″) (o″ ≡ o) → (a ≡ b) × (o′ ≡ o″)
-      written-line-same q K u d o =
-          promise-same Bytes (LineWritten f K u d o) (λ v. v ≡ o)
-          (λ v v′ g g′ p q.
-          let same = line-one K u (p .0) (q .0) d (p .1) (q .1) in
-          written-same (lineBits f K) _ _ o v v′ g g′ (λ n l. same n) (p .2) (q .2))
-          (λ v v′ e e′. e ∙ sym e′) q
+    pub written-line-same : (q : List Refusal) (K : ℕ) (u : List ℕ) (d : ℕ) (o : List ℕ) (a b : Answer)
+        (o′ o″ : List ℕ) → Bytes o′ → Bytes o″ → Promise q a (LineWritten f K u d o o′) (o′ ≡ o)
+        → Promise q b (LineWritten f K u d o o″) (o″ ≡ o) → (a ≡ b) × (o′ ≡ o″)
+    written-line-same q K u d o =
+        promise-same Bytes (LineWritten f K u d o) (λ v. v ≡ o)
+        (λ v v′ g g′ p q.
+        let same = line-one K u (p .0) (q .0) d (p .1) (q .1) in
+        written-same (lineBits f K) _ _ o v v′ g g′ (λ n l. same n) (p .2) (q .2))
+        (λ v v′ e e′. e ∙ sym e′) q
 
-      pub encode-same : (K : ℕ) (u : List ℕ) (d : ℕ) (o : List ℕ) (a b : Answer) (o′ o″ : List ℕ) → Bytes o′ → Bytes o″
-          → Encoded f K u d o a o′ → Encoded f K u d o b o″ → (a ≡ b) × (o′ ≡ o″)
-      encode-same K u d o = written-line-same (encodeOrder f K u d (length o)) K u d o
+    pub encode-same : (K : ℕ) (u : List ℕ) (d : ℕ) (o : List ℕ) (a b : Answer) (o′ o″ : List ℕ) → Bytes o′ → Bytes o″
+        → Encoded f K u d o a o′ → Encoded f K u d o b o″ → (a ≡ b) × (o′ ≡ o″)
+    encode-same K u d o = written-line-same (encodeOrder f K u d (length o)) K u d o
 
-      pub line-check-same : (K : ℕ) (l : List ℕ) (d : ℕ) (j j′ : Judgement) → LineChecked f K l d j
-          → LineChecked f K l d j′ → j ≡ j′
-      line-check-same K l d =
-          checked-same (lineOrder f K l d) (LineVerdict f K l d)
-          (line-same f K l d (sent-one (reordered f (padded K (bit l)))))
+    pub line-check-same : (K : ℕ) (l : List ℕ) (d : ℕ) (j j′ : Judgement) → LineChecked f K l d j
+        → LineChecked f K l d j′ → j ≡ j′
+    line-check-same K l d =
+        checked-same (lineOrder f K l d) (LineVerdict f K l d)
+        (line-same f K l d (sent-one (reordered f (padded K (bit l)))))
 
-      -- what a finish by the order q leaves
-      abbrev FinishedBy : List Refusal → ℕ → Stream → List ℕ → Outcome → List ℕ → Type 0
-      FinishedBy q d t o r o′ =
-          Promise q (r .answer) ((r .stream ≡ fresh) × TailWritten f (t .checks) d o o′) ((r .stream ≡ t) × (o′ ≡ o))
+    -- what a finish by the order q leaves
+    abbrev FinishedBy : List Refusal → ℕ → Stream → List ℕ → Outcome → List ℕ → Type 0
+    FinishedBy q d t o r o′ =
+        Promise q (r .answer) ((r .stream ≡ fresh) × TailWritten f (t .checks) d o o′) ((r .stream ≡ t) × (o′ ≡ o))
 
-      pub finished-same : (q : List Refusal) (d : ℕ) (t : Stream) (o : List ℕ) (r r′ : Outcome) (o′ o″ : List ℕ)
-          → Bytes o′ → Bytes o″ → FinishedBy q d t o r o′ → FinishedBy q d t o r′ o″ → (r ≡ r′) × (o′ ≡ o″)
-      finished-same q d t o r r′ o′ o″ h k x y = (
-        outcome-of (both .0) (ap (λ (v : Stream × List ℕ). v .0) (both .1)),
-        ap (λ (v : Stream × List ℕ). v .1) (both .1),
-      )
-        where
-          Tail : List ℕ → Type 0
-          Tail = TailWritten f (t .checks) d o
+    pub finished-same : (q : List Refusal) (d : ℕ) (t : Stream) (o : List ℕ) (r r′ : Outcome) (o′ o″ : List ℕ)
+        → Bytes o′ → Bytes o″ → FinishedBy q d t o r o′ → FinishedBy q d t o r′ o″ → (r ≡ r′) × (o′ ≡ o″)
+    finished-same q d t o r r′ o′ o″ h k x y = (
+      outcome-of (both .0) (ap (λ (v : Stream × List ℕ). v .0) (both .1)),
+      ap (λ (v : Stream × List ℕ). v .1) (both .1),
+    )
+      where
+        Tail : List ℕ → Type 0
+        Tail = TailWritten f (t .checks) d o
 
-          done : (v v′ : List ℕ) → Bytes v → Bytes v′ → Tail v → Tail v′ → v ≡ v′
-          done v v′ g g′ p q =
-              let same = own-same (f .code) one (t .checks) (p .0) (q .0) (p .1) (q .1) in
-              written-same (tailBits f) _ _ o v v′ g g′
-              (λ n l. tail-same f (p .0) (q .0) d (λ m i. same (f .second m)) n) (p .2) (q .2)
+        done : (v v′ : List ℕ) → Bytes v → Bytes v′ → Tail v → Tail v′ → v ≡ v′
+        done v v′ g g′ p q =
+            let same = own-same (f .code) one (t .checks) (p .0) (q .0) (p .1) (q .1) in
+            written-same (tailBits f) _ _ o v v′ g g′
+            (λ n l. tail-same f (p .0) (q .0) d (λ m i. same (f .second m)) n) (p .2) (q .2)
 
-          both : (r .answer ≡ r′ .answer) × (_≡_ {A = Stream × List ℕ} (r .stream, o′) (r′ .stream, o″))
-          both =
-              promise-same (λ (v : Stream × List ℕ). Bytes (v .1)) (λ v. (v .0 ≡ fresh) × Tail (v .1))
-              (λ v. (v .0 ≡ t) × (v .1 ≡ o))
-              (λ v v′ g g′ p q. left-of (p .0 ∙ sym (q .0)) (done (v .1) (v′ .1) g g′ (p .1) (q .1)))
-              (λ v v′ e e′. left-of (e .0 ∙ sym (e′ .0)) (e .1 ∙ sym (e′ .1)))
-              q (r .answer) (r′ .answer) (r .stream, o′) (r′ .stream, o″) h k x y
+        both : (r .answer ≡ r′ .answer) × (_≡_ {A = Stream × List ℕ} (r .stream, o′) (r′ .stream, o″))
+        both =
+            promise-same (λ (v : Stream × List ℕ). Bytes (v .1)) (λ v. (v .0 ≡ fresh) × Tail (v .1))
+            (λ v. (v .0 ≡ t) × (v .1 ≡ o))
+            (λ v v′ g g′ p q. left-of (p .0 ∙ sym (q .0)) (done (v .1) (v′ .1) g g′ (p .1) (q .1)))
+            (λ v v′ e e′. left-of (e .0 ∙ sym (e′ .0)) (e .1 ∙ sym (e′ .1)))
+            q (r .answer) (r′ .answer) (r .stream, o′) (r′ .stream, o″) h k x y
 
-      pub finish-same : (d : ℕ) (t : Stream) (o : List ℕ) (r r′ : Outcome) (o′ o″ : List ℕ) → Bytes o′ → Bytes o″
-          → Finished f d t o r o′ → Finished f d t o r′ o″ → (r ≡ r′) × (o′ ≡ o″)
-      finish-same d t o = finished-same (finishOrder f (t .held) d (length o)) d t o
+    pub finish-same : (d : ℕ) (t : Stream) (o : List ℕ) (r r′ : Outcome) (o′ o″ : List ℕ) → Bytes o′ → Bytes o″
+        → Finished f d t o r o′ → Finished f d t o r′ o″ → (r ≡ r′) × (o′ ≡ o″)
+    finish-same d t o = finished-same (finishOrder f (t .held) d (length o)) d t o

@@ -138,7 +138,7 @@ module _ (f : Format) where
         → Finished f d s o r o′ → Finished f d t o r′ o″ → (r ≡ r′) × (o′ ≡ o″)
     no-cut-told {t = t} x y same d o r r′ o′ o″ b b′ p q =
         let moved = subst (λ (z : Stream). Finished f d z o r o′) (cut-alike x y same) p in
-        finish-same f one sized d t o r r′ o′ o″ b b′ moved q
+        finish-same f one d t o r r′ o′ o″ b b′ moved q
 
     -- the bits u, as far as they are held, are the payload's, then zeros; so are both reordered
     held-padded : {u : ℕ → ℕ} {h : ℕ} {t : Stream} → Running f u h t → (v : List ℕ) → ((n : ℕ) → n < h → bit v n ≡ u n)
