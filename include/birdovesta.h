@@ -16,21 +16,47 @@
  *
  * payload     K bits, K from 257 to 14,392: data
  *             blocks of 257 bits, 1 to 56 of them
- * full word   17,664 bits in 2,208 bytes: the payload,
- *             zeros up to place 14,591 (the shortened
- *             places), then 3,072 parity bits
- * line word   K + 2,570 bits: the payload, parity bits
- *             0 to 2,559, then the delimiter's 10 bits,
- *             lowest first
+ * full word   17,664 bits in 2,208 bytes, in inner order:
+ *             14,592 payload places, of which 14,592 - K
+ *             are shortened, then 3,072 parity places
+ * line word   K + 2,570 bits: the payload, outgoing
+ *             parity bits 0 to 2,559, then the
+ *             delimiter's 10 bits, lowest first
  *
  * The coax codes are named by the bits of their words.
- * Nothing is shortened, and there is no delimiter.
+ * Nothing is shortened, and there are no lists and no
+ * delimiter.
  *
  * code 16200  16,200 bits in 2,025 bytes: 14,400 payload
  *             bits, then 1,800 parity bits
  * code 5940   5,940 bits in 743 bytes: 5,040 payload
  *             bits, then 900 parity bits; the last byte
  *             has 4 unused bits
+ *
+ *
+ * The two lists
+ *
+ * Each call of the fibre code is lent two lists, one for
+ * each interleaver. A list names each of its places
+ * once, in any order. Entry t is bytes 2t and 2t + 1,
+ * low byte first. Entries and places count from 0.
+ *
+ * first       14,592 entries in 29,184 bytes. The padded
+ *             payload is the payload, then zeros up to
+ *             place 14,591. Entry t names the padded
+ *             place that goes to inner place t.
+ * second      3,072 entries in 6,144 bytes. Entry t names
+ *             the inner parity place that becomes
+ *             outgoing parity bit t. The last 512 are not
+ *             sent.
+ *
+ * Inner place t is shortened where entry t of first is K
+ * or more. The checks are those of the full word, in
+ * inner order.
+ *
+ * The published lists are not in here: the caller gives
+ * them. The pair that changes nothing, where entry t is
+ * t, does NOT give the published words.
  *
  *
  * What the caller answers for
@@ -43,7 +69,9 @@
  *   encoders) overlap no other bytes that the call is
  *   lent.
  * - Nobody else writes to any of them during the call.
- * All else is tested and refused by a number.
+ * All of this holds of the lists too.
+ * All else is tested and refused by a number. The lists
+ * are tested at each call.
  *
  *
  * The answer of each call
@@ -56,23 +84,28 @@
  *   4  the delimiter is above 1,023
  *   5  the output is shorter than needed
  *  10  bits is not a multiple of 257
+ *  16  a list is no reordering of its places
  * else            not accepted, for a cause:
  *   cause * 2^32 + count * 2^16 + place
  *   1  shortened: a shortened place is 1;
- *      the lowest such place
+ *      the lowest such inner place, 0 to 14,591
  *   2  check: a check fails;
  *      the lowest failing row, 0 to 3,071, and as
  *      count how many rows fail, 1 to 3,072
  *   3  parity: a sent parity bit isn't the encoder's;
- *      the lowest such place, 0 to 2,559
+ *      the lowest such outgoing place, 0 to 2,559
  *   4  delimiter: it isn't the one given;
  *      its lowest differing bit, 0 to 9
  *   For the other causes count is 0.
  *
+ * Refusal 16: the bytes of first are not 29,184, those of
+ * second are not 6,144, an entry is no place of its
+ * list, or two entries of a list name the same place.
+ *
  * In the calls of a coax code:
  * - Refusal 1: bits is not 14,400 (code 16200), or not
  *   5,040 (code 5940).
- * - Refusals 4 and 10 don't arise.
+ * - Refusals 4, 10 and 16 don't arise.
  * - The only cause is 2, check. The row is 0 to 1,799,
  *   or 0 to 899; count is 1 to 1,800, or 1 to 900.
  *
@@ -88,7 +121,7 @@
  * of another. The only condition is the one that the
  * caller answers for above: nobody else writes to the
  * bytes that a call is lent. Several calls may read the
- * same bytes.
+ * same bytes, such as the same lists.
  *
  *
  * Stack
@@ -100,8 +133,9 @@
  *   BIRDOVESTA_ENCODE_COAX_STACK
  *   BIRDOVESTA_CHECK_COAX_STACK
  * The last two are for both coax codes.
- * Measured for every K and every kind of answer, and
- * rounded up. What is the host's own is not counted:
+ * Measured for every K, every kind of answer and several
+ * pairs of lists, and rounded up. What is the host's own
+ * is not counted:
  * - What memcpy and memset take.
  * - What a dynamic linker takes, if it looks these two
  *   up at their first call. That can be some thousands
@@ -137,14 +171,18 @@ enum birdovesta_cause {
 #define BIRDOVESTA_WORD_BYTES 2208
 #define BIRDOVESTA_LINE_BYTES(K) (((K) + 2570 + 7) / 8)
 
+/* Bytes of each list. */
+#define BIRDOVESTA_FIRST_BYTES 29184
+#define BIRDOVESTA_SECOND_BYTES 6144
+
 /* Bytes of a word of each coax code. */
 #define BIRDOVESTA_WORD_16200_BYTES 2025
 #define BIRDOVESTA_WORD_5940_BYTES 743
 
 /* Bytes of stack that each call takes at most. */
-#define BIRDOVESTA_ENCODE_STACK 8192
-#define BIRDOVESTA_CHECK_WORD_STACK 4096
-#define BIRDOVESTA_CHECK_LINE_STACK 8192
+#define BIRDOVESTA_ENCODE_STACK 24576
+#define BIRDOVESTA_CHECK_WORD_STACK 24576
+#define BIRDOVESTA_CHECK_LINE_STACK 24576
 #define BIRDOVESTA_ENCODE_COAX_STACK 4096
 #define BIRDOVESTA_CHECK_COAX_STACK 2048
 
@@ -159,38 +197,53 @@ enum birdovesta_cause {
  * untouched.
  * payload_bytes: bits / 8, rounded up.
  * delimiter:     0 to 1,023.
+ * first_bytes:   29,184.
+ * second_bytes:  6,144.
  * line_bytes:    at least BIRDOVESTA_LINE_BYTES(bits).
- * Refusals, in order: 1, 10, 2, 3, 4, 5.
+ * Refusals, in order: 16, 1, 10, 2, 3, 4, 5.
  */
 uint64_t birdovesta_encode(
     size_t bits,
     const uint8_t *payload, size_t payload_bytes,
     size_t delimiter,
+    const uint8_t *first, size_t first_bytes,
+    const uint8_t *second, size_t second_bytes,
     uint8_t *line, size_t line_bytes);
 
 /* Check a full word whose payload has `bits` bits.
+ * The word is in inner order, and is not reordered.
  * Accepted where each shortened place is 0 and all 3,072
  * checks hold. Else the cause is shortened or, where no
  * shortened place is 1, check.
- * word_bytes: 2,208.
- * Refusals, in order: 1, 10, 2.
+ * word_bytes:   2,208.
+ * first_bytes:  29,184. It tells the shortened places.
+ * second_bytes: 6,144. Only tested.
+ * Refusals, in order: 16, 1, 10, 2.
  */
 uint64_t birdovesta_check_word(
     size_t bits,
-    const uint8_t *word, size_t word_bytes);
+    const uint8_t *word, size_t word_bytes,
+    const uint8_t *first, size_t first_bytes,
+    const uint8_t *second, size_t second_bytes);
 
 /* Check a line word whose payload has `bits` bits.
  * Accepted where it is the one that the encoder writes
- * for its payload and this delimiter. Else the cause is
- * parity or, where all sent parity is right, delimiter.
- * line_bytes: exactly BIRDOVESTA_LINE_BYTES(bits).
- * delimiter:  0 to 1,023.
- * Refusals, in order: 1, 10, 2, 3, 4.
+ * for its payload, this delimiter and these lists. Else
+ * the cause is parity or, where all sent parity is
+ * right, delimiter. A parity place is an outgoing one:
+ * bit `bits` + place of the line word.
+ * line_bytes:   exactly BIRDOVESTA_LINE_BYTES(bits).
+ * delimiter:    0 to 1,023.
+ * first_bytes:  29,184.
+ * second_bytes: 6,144.
+ * Refusals, in order: 16, 1, 10, 2, 3, 4.
  */
 uint64_t birdovesta_check_line(
     size_t bits,
     const uint8_t *line, size_t line_bytes,
-    size_t delimiter);
+    size_t delimiter,
+    const uint8_t *first, size_t first_bytes,
+    const uint8_t *second, size_t second_bytes);
 
 /* Encode by the coax code 16200.
  * Writes the payload, then its parity, to the start of

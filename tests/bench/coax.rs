@@ -160,6 +160,10 @@ impl Bench for CoaxBench {
         calls.map(|(name, call)| (code.call(&name), call)).to_vec()
     }
 
+    fn words(&self, _: Call, most: usize) -> usize {
+        most
+    }
+
     /// The pieces, and the inputs that it writes over.
     fn prepare(&mut self, call: Call, words: usize) {
         let bits = self.both.code.payload;

@@ -1,5 +1,5 @@
 //! The benchmark's program: every call on full-size payloads, ours and the yardstick's. Those of the fibre code are
-//! here, those of the coax codes in coax.rs.
+//! here, each with the plain pair of lists and with a made-up one; those of the coax codes are in coax.rs.
 //!   bench compare     compares them on a few words, and measures nothing; ends with `N cases, M wrong`
 //!   bench count       makes each call on all words, between two marks for count.c
 //!   bench time        times each, and says the median of several runs
@@ -18,6 +18,10 @@ mod coax;
 mod coax_paper;
 #[path = "../yardstick/coax_tables.rs"]
 mod coax_tables;
+#[path = "../yardstick/lists.rs"]
+mod lists;
+#[path = "../yardstick/made_lists.rs"]
+mod made_lists;
 mod measured;
 #[path = "../yardstick/paper.rs"]
 mod paper;
@@ -28,16 +32,22 @@ mod stream;
 #[path = "../yardstick/table.rs"]
 mod table;
 
+use lists::Lists;
+use made_lists::Pair;
 use paper::*;
+use std::rc::Rc;
 use std::time::Instant;
 use stream::{Columns, Stream};
 
-/// The words of a measurement; those in single bits, which take long; and those of a comparison alone.
+/// The words of a measurement; those of the fibre code in many pieces and in single bits, which take long, as each
+/// piece tests both lists; and those of a comparison alone.
 const WORDS: usize = 1000;
-const BITWISE_WORDS: usize = 10;
+const MANY_PIECES_WORDS: usize = 100;
+const BITWISE_WORDS: usize = 1;
 const FEW_WORDS: usize = 3;
 const RUNS: usize = 5;
 const DELIMITER: usize = 341;
+const BLOCK: usize = 256;
 const TAIL_BYTES: usize = 322;
 
 #[derive(Clone, Copy)]
@@ -56,6 +66,8 @@ pub enum Call {
 pub trait Bench {
     /// Its calls, with their names.
     fn calls(&self) -> Vec<(String, Call)>;
+    /// How many words a call is made on, of so many.
+    fn words(&self, call: Call, most: usize) -> usize;
     /// Makes all ready for a call on so many words.
     fn prepare(&mut self, call: Call, words: usize);
     /// Makes it on them. Each answer's number is added to the sum that comes back: 0 where all is fine.
@@ -64,7 +76,7 @@ pub trait Bench {
     fn compare(&mut self, call: Call, words: usize) -> usize;
 }
 
-/// The sizes make 1, 8, 57 and 14,392 pieces; 256 bits are a block.
+/// The sizes make 1, 8, 57 and 14,392 pieces.
 const CALLS: [(&str, Call); 9] = [
     ("encode", Call::Encode),
     ("full-word check", Call::Word),
@@ -73,7 +85,7 @@ const CALLS: [(&str, Call); 9] = [
     ("finish of a stream", Call::Finish),
     ("stream, 1 piece", Call::Pieces(PAYLOAD_MOST)),
     ("stream, 8 pieces", Call::Pieces(1799)),
-    ("stream, 57 pieces", Call::Pieces(256)),
+    ("stream, 57 pieces", Call::Pieces(BLOCK)),
     ("stream, single bits", Call::Pieces(1)),
 ];
 
@@ -102,20 +114,20 @@ pub enum Engine {
 }
 
 struct Fibre {
-    code: Code,
-    columns: Columns,
+    /// The lists' name, which goes before those of the calls.
+    name: &'static str,
+    with: With,
     samples: Vec<Sample>,
     /// A buffer of each kind for each sample and engine.
     ours: Vec<Written>,
     rust: Vec<Written>,
 }
 
-/// How many words a call is made on.
-fn words_of(call: Call, most: usize) -> usize {
-    match call {
-        Call::Pieces(1) => most.min(BITWISE_WORDS),
-        _ => most,
-    }
+/// What the calls are made with.
+struct With {
+    code: Rc<Code>,
+    columns: Rc<Columns>,
+    lists: Lists,
 }
 
 /// The payload, of so many bits, in pieces of a size.
@@ -142,70 +154,105 @@ pub fn each_piece(pieces: &[u8], bits: usize, size: usize, mut take: impl FnMut(
     }
 }
 
-/// One call of the proved crates. A stream's answers are added up.
-fn call_ours(call: Call, sample: &Sample, out: &mut Written) -> u64 {
-    match call {
-        Call::Encode => archive::encode(PAYLOAD_MOST, &sample.payload, DELIMITER, &mut out.line),
-        Call::Word => archive::check_word(PAYLOAD_MOST, &sample.word),
-        Call::Line => archive::check_line(PAYLOAD_MOST, &sample.line, DELIMITER),
-        Call::Complete => measured::complete(PAYLOAD_MOST, &mut out.word),
-        Call::Finish => measured::finish(PAYLOAD_MOST, &mut out.checks, DELIMITER, &mut out.tail),
-        Call::Pieces(size) => {
-            let mut answers = 0;
-            out.checks.fill(0);
-            each_piece(&sample.pieces, PAYLOAD_MOST, size, |held, count, bytes| {
-                answers += measured::piece(held, &mut out.checks, count, bytes);
-            });
-            answers + measured::finish(PAYLOAD_MOST, &mut out.checks, DELIMITER, &mut out.tail)
+impl With {
+    fn piece_ours(&self, held: usize, checks: &mut [u8], count: usize, bytes: &[u8]) -> u64 {
+        measured::piece(held, checks, count, bytes, &self.lists.first, &self.lists.second)
+    }
+
+    fn finish_ours(&self, out: &mut Written) -> u64 {
+        let (first, second) = (&self.lists.first, &self.lists.second);
+        measured::finish(PAYLOAD_MOST, &mut out.checks, DELIMITER, first, second, &mut out.tail)
+    }
+
+    /// One call of the proved crates. A stream's answers are added up.
+    fn call_ours(&self, call: Call, sample: &Sample, out: &mut Written) -> u64 {
+        let (first, second) = (&self.lists.first, &self.lists.second);
+        match call {
+            Call::Encode => archive::encode(PAYLOAD_MOST, &sample.payload, DELIMITER, first, second, &mut out.line),
+            Call::Word => archive::check_word(PAYLOAD_MOST, &sample.word, first, second),
+            Call::Line => archive::check_line(PAYLOAD_MOST, &sample.line, DELIMITER, first, second),
+            Call::Complete => measured::complete(PAYLOAD_MOST, &mut out.word, first, second),
+            Call::Finish => self.finish_ours(out),
+            Call::Pieces(size) => {
+                let mut answers = 0;
+                out.checks.fill(0);
+                each_piece(&sample.pieces, PAYLOAD_MOST, size, |held, count, bytes| {
+                    answers += self.piece_ours(held, &mut out.checks, count, bytes);
+                });
+                answers + self.finish_ours(out)
+            }
         }
     }
-}
 
-/// The same by the yardstick.
-fn call_rust(call: Call, sample: &Sample, out: &mut Written, code: &Code, columns: &Columns) -> u64 {
-    match call {
-        Call::Encode => {
-            let (answer, line) = code.encode(PAYLOAD_MOST, &sample.payload, DELIMITER, out.line.len());
-            out.line[..line.len()].copy_from_slice(&line);
-            answer.number()
-        }
-        Call::Word => code.check_word(PAYLOAD_MOST, &sample.word).number(),
-        Call::Line => code.check_line(PAYLOAD_MOST, &sample.line, DELIMITER).number(),
-        Call::Complete => stream::complete(code, PAYLOAD_MOST, &mut out.word).number(),
-        Call::Finish => {
-            let checks = std::mem::take(&mut out.checks);
-            finish_rust(Stream { held: PAYLOAD_MOST, checks }, out, code)
-        }
-        Call::Pieces(size) => {
-            let mut answers = 0;
-            let mut stream = Stream::fresh();
-            each_piece(&sample.pieces, PAYLOAD_MOST, size, |_, count, bytes| {
-                answers += stream.piece(columns, count, bytes).number();
-            });
-            answers + finish_rust(stream, out, code)
+    /// The same by the yardstick.
+    fn call_rust(&self, call: Call, sample: &Sample, out: &mut Written) -> u64 {
+        let (code, lists) = (&self.code, &self.lists);
+        match call {
+            Call::Encode => {
+                let (answer, line) =
+                    lists::encode(code, lists, PAYLOAD_MOST, &sample.payload, DELIMITER, out.line.len());
+                out.line[..line.len()].copy_from_slice(&line);
+                answer.number()
+            }
+            Call::Word => lists::check_word(code, lists, PAYLOAD_MOST, &sample.word).number(),
+            Call::Line => lists::check_line(code, lists, PAYLOAD_MOST, &sample.line, DELIMITER).number(),
+            Call::Complete => lists::complete(code, lists, PAYLOAD_MOST, &mut out.word).number(),
+            Call::Finish => {
+                let checks = std::mem::take(&mut out.checks);
+                self.finish_rust(Stream { held: PAYLOAD_MOST, checks }, out)
+            }
+            Call::Pieces(size) => {
+                let mut answers = 0;
+                let mut stream = Stream::fresh();
+                each_piece(&sample.pieces, PAYLOAD_MOST, size, |_, count, bytes| {
+                    answers += lists::piece(&self.columns, lists, &mut stream, count, bytes).number();
+                });
+                answers + self.finish_rust(stream, out)
+            }
         }
     }
-}
 
-fn finish_rust(mut stream: Stream, out: &mut Written, code: &Code) -> u64 {
-    let (answer, tail) = stream.finish(code, DELIMITER, out.tail.len());
-    out.tail[..tail.len()].copy_from_slice(&tail);
-    out.checks = stream.checks;
-    answer.number()
+    fn finish_rust(&self, mut stream: Stream, out: &mut Written) -> u64 {
+        let (answer, tail) = lists::finish(&self.code, &self.lists, &mut stream, DELIMITER, out.tail.len());
+        out.tail[..tail.len()].copy_from_slice(&tail);
+        out.checks = stream.checks;
+        answer.number()
+    }
+
+    /// Whether both answer a sample alike, by 0, and leave the same bytes. In a stream they take turns, and the running
+    /// checks are compared after each piece.
+    fn same(&self, call: Call, sample: &Sample, ours: &mut Written, rust: &mut Written) -> bool {
+        let mut same = true;
+        let answers = match call {
+            Call::Pieces(size) => {
+                let mut stream = Stream::fresh();
+                ours.checks.fill(0);
+                each_piece(&sample.pieces, PAYLOAD_MOST, size, |held, count, bytes| {
+                    same &= self.piece_ours(held, &mut ours.checks, count, bytes) == 0;
+                    let answer = lists::piece(&self.columns, &self.lists, &mut stream, count, bytes);
+                    same &= answer == Answer::Fine && ours.checks == stream.checks;
+                });
+                (self.finish_ours(ours), self.finish_rust(stream, rust))
+            }
+            _ => (self.call_ours(call, sample, ours), self.call_rust(call, sample, rust)),
+        };
+        same && answers == (0, 0) && ours == rust
+    }
 }
 
 impl Fibre {
-    fn new(words: usize) -> Fibre {
-        let code = Code::new();
-        let columns = Columns::new(&code);
+    fn new(name: &'static str, code: Rc<Code>, columns: Rc<Columns>, lists: Lists, words: usize) -> Fibre {
+        let orders = lists.read().expect("both are reorderings");
         let mut random = random::Random(142);
         let mut samples = Vec::new();
         for _ in 0..words {
             let payload = random.bytes(bytes_for(PAYLOAD_MOST));
-            let word = code.full_word(PAYLOAD_MOST, &payload);
-            let line = line_word(PAYLOAD_MOST, &word, DELIMITER);
+            let inner = lists::inner_payload(&orders, &lists::padded(PAYLOAD_MOST, &payload));
+            let word = code.full_word(PAYLOAD_PLACES, &inner);
+            let outer = lists::outer_word(&code, &orders, PAYLOAD_MOST, &payload);
+            let line = line_word(PAYLOAD_MOST, &outer, DELIMITER);
             let mut stream = Stream::fresh();
-            stream.piece(&columns, PAYLOAD_MOST, &payload);
+            lists::piece(&columns, &lists, &mut stream, PAYLOAD_MOST, &payload);
             samples.push(Sample { payload, word, line, checks: stream.checks, pieces: Vec::new() });
         }
         // Other bytes than any call leaves, so that a byte that is not written is found.
@@ -217,29 +264,21 @@ impl Fibre {
         };
         let ours: Vec<Written> = samples.iter().map(blank).collect();
         let rust = ours.clone();
-        Fibre { code, columns, samples, ours, rust }
-    }
-
-    /// Whether both answer each piece alike and leave the same running checks after it.
-    fn pieces_same(&self, call: Call, n: usize) -> bool {
-        let size = match call {
-            Call::Pieces(size) => size,
-            _ => return true,
-        };
-        let mut rust = Stream::fresh();
-        let mut ours = rust.checks.clone();
-        let mut same = true;
-        each_piece(&self.samples[n].pieces, PAYLOAD_MOST, size, |held, count, bytes| {
-            let answer = measured::piece(held, &mut ours, count, bytes);
-            same &= answer == rust.piece(&self.columns, count, bytes).number() && ours == rust.checks;
-        });
-        same
+        Fibre { name, with: With { code, columns, lists }, samples, ours, rust }
     }
 }
 
 impl Bench for Fibre {
     fn calls(&self) -> Vec<(String, Call)> {
-        CALLS.map(|(name, call)| (name.to_string(), call)).to_vec()
+        CALLS.map(|(name, call)| (format!("{}: {}", self.name, name), call)).to_vec()
+    }
+
+    fn words(&self, call: Call, most: usize) -> usize {
+        match call {
+            Call::Pieces(1) => most.min(BITWISE_WORDS),
+            Call::Pieces(BLOCK) => most.min(MANY_PIECES_WORDS),
+            _ => most,
+        }
     }
 
     /// The pieces, and the inputs that it writes over.
@@ -263,8 +302,8 @@ impl Bench for Fibre {
         for n in 0..words {
             let sample = &self.samples[n];
             answers += match engine {
-                Engine::Ours => call_ours(call, sample, &mut self.ours[n]),
-                Engine::Rust => call_rust(call, sample, &mut self.rust[n], &self.code, &self.columns),
+                Engine::Ours => self.with.call_ours(call, sample, &mut self.ours[n]),
+                Engine::Rust => self.with.call_rust(call, sample, &mut self.rust[n]),
             };
         }
         answers
@@ -272,15 +311,8 @@ impl Bench for Fibre {
 
     fn compare(&mut self, call: Call, words: usize) -> usize {
         self.prepare(call, words);
-        let (code, columns) = (&self.code, &self.columns);
-        let mut wrong = 0;
-        for n in 0..words {
-            let ours = call_ours(call, &self.samples[n], &mut self.ours[n]);
-            let rust = call_rust(call, &self.samples[n], &mut self.rust[n], code, columns);
-            let same = ours == rust && ours == 0 && self.ours[n] == self.rust[n];
-            wrong += usize::from(!same || !self.pieces_same(call, n));
-        }
-        wrong
+        let differs = |&n: &usize| !self.with.same(call, &self.samples[n], &mut self.ours[n], &mut self.rust[n]);
+        (0..words).filter(differs).count()
     }
 }
 
@@ -314,12 +346,17 @@ fn main() {
         "count" | "time" => WORDS,
         _ => panic!("bench compare, count or time"),
     };
+    let code = Rc::new(Code::new());
+    let columns = Rc::new(Columns::new(&code));
+    let made_up = Pair::made(&mut random::Random(2), "shuffled").lists;
+    let plain = Fibre::new("plain", code.clone(), columns.clone(), Pair::plain().lists, most);
+    let made_up = Fibre::new("made-up", code, columns, made_up, most);
     let [large, small] = coax::codes(most);
-    let mut benches: [Box<dyn Bench>; 3] = [Box::new(Fibre::new(most)), Box::new(large), Box::new(small)];
+    let mut benches: [Box<dyn Bench>; 4] = [Box::new(plain), Box::new(made_up), Box::new(large), Box::new(small)];
     let (mut cases, mut wrong) = (0, 0);
     for bench in &mut benches {
         for (name, call) in bench.calls() {
-            let words = words_of(call, most);
+            let words = bench.words(call, most);
             let differing = bench.compare(call, words);
             if differing > 0 {
                 println!("wrong {}, {} of {} words", name, differing, words);
@@ -334,7 +371,7 @@ fn main() {
     }
     for bench in &mut benches {
         for (name, call) in bench.calls() {
-            let words = words_of(call, most);
+            let words = bench.words(call, most);
             for (engine, whose) in [(Engine::Ours, "ours"), (Engine::Rust, "Rust")] {
                 let nanoseconds = match mode.as_str() {
                     "time" => time(bench.as_mut(), call, engine, words),

@@ -2,7 +2,15 @@
 //! pointer and count.
 
 extern "C" {
-    fn measured_complete(count: usize, word: *mut u8, word_bytes: usize) -> u64;
+    fn measured_complete(
+        count: usize,
+        word: *mut u8,
+        word_bytes: usize,
+        first: *const u8,
+        first_bytes: usize,
+        second: *const u8,
+        second_bytes: usize,
+    ) -> u64;
     fn measured_piece(
         held: usize,
         checks: *mut u8,
@@ -10,12 +18,20 @@ extern "C" {
         count: usize,
         bytes: *const u8,
         bytes_count: usize,
+        first: *const u8,
+        first_bytes: usize,
+        second: *const u8,
+        second_bytes: usize,
     ) -> u64;
     fn measured_finish(
         held: usize,
         checks: *mut u8,
         checks_bytes: usize,
         delimiter: usize,
+        first: *const u8,
+        first_bytes: usize,
+        second: *const u8,
+        second_bytes: usize,
         tail: *mut u8,
         tail_bytes: usize,
     ) -> u64;
@@ -53,16 +69,52 @@ extern "C" {
     ) -> u64;
 }
 
-pub fn complete(count: usize, word: &mut [u8]) -> u64 {
-    unsafe { measured_complete(count, word.as_mut_ptr(), word.len()) }
+pub fn complete(count: usize, word: &mut [u8], first: &[u8], second: &[u8]) -> u64 {
+    unsafe {
+        measured_complete(
+            count,
+            word.as_mut_ptr(),
+            word.len(),
+            first.as_ptr(),
+            first.len(),
+            second.as_ptr(),
+            second.len(),
+        )
+    }
 }
 
-pub fn piece(held: usize, checks: &mut [u8], count: usize, bytes: &[u8]) -> u64 {
-    unsafe { measured_piece(held, checks.as_mut_ptr(), checks.len(), count, bytes.as_ptr(), bytes.len()) }
+pub fn piece(held: usize, checks: &mut [u8], count: usize, bytes: &[u8], first: &[u8], second: &[u8]) -> u64 {
+    unsafe {
+        measured_piece(
+            held,
+            checks.as_mut_ptr(),
+            checks.len(),
+            count,
+            bytes.as_ptr(),
+            bytes.len(),
+            first.as_ptr(),
+            first.len(),
+            second.as_ptr(),
+            second.len(),
+        )
+    }
 }
 
-pub fn finish(held: usize, checks: &mut [u8], delimiter: usize, tail: &mut [u8]) -> u64 {
-    unsafe { measured_finish(held, checks.as_mut_ptr(), checks.len(), delimiter, tail.as_mut_ptr(), tail.len()) }
+pub fn finish(held: usize, checks: &mut [u8], delimiter: usize, first: &[u8], second: &[u8], tail: &mut [u8]) -> u64 {
+    unsafe {
+        measured_finish(
+            held,
+            checks.as_mut_ptr(),
+            checks.len(),
+            delimiter,
+            first.as_ptr(),
+            first.len(),
+            second.as_ptr(),
+            second.len(),
+            tail.as_mut_ptr(),
+            tail.len(),
+        )
+    }
 }
 
 /// The calls of a coax code.

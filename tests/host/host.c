@@ -1,12 +1,13 @@
 /* The bench host in C, against include/birdovesta.h and the
  * archive: the lessons of paper 01's sheet that go through
- * its calls, the same for the coax codes of W8, and that
- * nothing else is touched.
+ * its calls, with the pair of lists that changes nothing; what
+ * W2 says of other lists, and of lists at fault; lessons for
+ * the coax codes of W8; and that nothing else is touched.
  *
- * Every expected value is from paper 01 or, for the coax
+ * Every expected value is from paper 01, W2 or, for the coax
  * codes, from W8 and source document 001. Each fact takes a
- * call's answer, and every byte of the three buffers later,
- * guard bytes on both sides included.
+ * call's answer, and every byte of the three buffers and of
+ * both lists later, guard bytes on both sides included.
  *
  * Prints one fact a line, of at most 40 characters, and ends
  * with `N right, M wrong`. Exit status 1 if any is wrong.
@@ -24,7 +25,9 @@ enum {
     LEAST_LINE = 354,
     PAYLOAD_MOST = 14392,
     PAYLOAD_PLACES = 14592,
-    SENT = 2560
+    PARITY_PLACES = 3072,
+    SENT = 2560,
+    PUNCTURED = PARITY_PLACES - SENT
 };
 
 /* A buffer is lent from byte GUARD on. */
@@ -35,6 +38,16 @@ struct buffer {
 /* What is lent, and what it must hold after the call. */
 static struct buffer payload, word, line;
 static struct buffer payload_later, word_later, line_later;
+
+/* So is a list. What it must hold later is what was put
+ * there: no call writes to a list. */
+struct list {
+    size_t places, bytes;
+    uint8_t all[GUARD + BIRDOVESTA_FIRST_BYTES + GUARD];
+    uint8_t later[GUARD + BIRDOVESTA_FIRST_BYTES + GUARD];
+};
+
+static struct list first = { .places = PAYLOAD_PLACES }, second = { .places = PARITY_PLACES };
 
 static unsigned right, wrong;
 
@@ -84,9 +97,15 @@ static void nothing_changes(void)
     line_later = line;
 }
 
+static int list_right(const struct list *list)
+{
+    return memcmp(list->all, list->later, sizeof list->all) == 0;
+}
+
 static int bytes_right(void)
 {
-    return memcmp(&payload, &payload_later, sizeof payload) == 0
+    return list_right(&first) && list_right(&second)
+        && memcmp(&payload, &payload_later, sizeof payload) == 0
         && memcmp(&word, &word_later, sizeof word) == 0
         && memcmp(&line, &line_later, sizeof line) == 0;
 }
@@ -112,26 +131,110 @@ static void told(const char *text, uint64_t answer, uint64_t expected)
         printf("  some byte is not as it must be\n");
 }
 
+/* The number of a verdict. */
+#define VERDICT(cause, count, place) (((uint64_t)(cause) << 32) + ((uint64_t)(count) << 16) + (place))
+
 static uint64_t verdict(uint64_t cause, uint64_t count, uint64_t place)
 {
-    return (cause << 32) + (count << 16) + place;
+    return VERDICT(cause, count, place);
 }
 
-/* The calls of the fibre code, on the three buffers. */
+/* Lists */
+
+static void put_entry(struct list *list, size_t t, size_t place)
+{
+    list->all[GUARD + 2 * t] = (uint8_t)(place % 256);
+    list->all[GUARD + 2 * t + 1] = (uint8_t)(place / 256);
+}
+
+static size_t entry(const struct list *list, size_t t)
+{
+    return list->all[GUARD + 2 * t] + 256u * list->all[GUARD + 2 * t + 1];
+}
+
+/* What is there now is what must be there later. */
+static void list_is_put(struct list *list)
+{
+    memcpy(list->later, list->all, sizeof list->all);
+}
+
+/* Entry t of a list of so many places. */
+typedef size_t order(size_t t, size_t places);
+
+static size_t plain(size_t t, size_t places)
+{
+    (void)places;
+    return t;
+}
+
+static size_t reversed(size_t t, size_t places)
+{
+    return places - 1 - t;
+}
+
+/* Parity bits 512 to 3,071 come first. */
+static size_t turned(size_t t, size_t places)
+{
+    return (t + PUNCTURED) % places;
+}
+
+/* All that can be payload is moved on by one place, so that
+ * what is shortened is the same as in the plain list. */
+static size_t moved_on(size_t t, size_t places)
+{
+    (void)places;
+    return t < PAYLOAD_MOST ? (t + 1) % PAYLOAD_MOST : t;
+}
+
+static void put_list(struct list *list, order *of)
+{
+    for (size_t n = 0; n < sizeof list->all; n++)
+        list->all[n] = (uint8_t)(59 + 41 * n);
+    for (size_t t = 0; t < list->places; t++)
+        put_entry(list, t, of(t, list->places));
+    list->bytes = 2 * list->places;
+    list_is_put(list);
+}
+
+/* In an order that looks random, the same at every run. */
+static void shuffle(struct list *list)
+{
+    uint64_t state = 142;
+    put_list(list, plain);
+    for (size_t t = list->places - 1; t > 0; t--) {
+        state = state * 6364136223846793005u + 1442695040888963407u;
+        size_t other = (size_t)(state >> 33) % (t + 1), place = entry(list, t);
+        put_entry(list, t, entry(list, other));
+        put_entry(list, other, place);
+    }
+    list_is_put(list);
+}
+
+static void put_lists(order *of)
+{
+    put_list(&first, of);
+    put_list(&second, of);
+}
+
+/* The calls of the fibre code, on the three buffers and with
+ * both lists. */
 
 static uint64_t encode(size_t bits, size_t bytes, size_t delimiter, size_t room)
 {
-    return birdovesta_encode(bits, lent(&payload), bytes, delimiter, lent(&line), room);
+    return birdovesta_encode(bits, lent(&payload), bytes, delimiter, first.all + GUARD, first.bytes,
+        second.all + GUARD, second.bytes, lent(&line), room);
 }
 
 static uint64_t check_word(size_t bits, size_t bytes)
 {
-    return birdovesta_check_word(bits, lent(&word), bytes);
+    return birdovesta_check_word(bits, lent(&word), bytes, first.all + GUARD, first.bytes,
+        second.all + GUARD, second.bytes);
 }
 
 static uint64_t check_line(size_t bits, size_t bytes, size_t delimiter)
 {
-    return birdovesta_check_line(bits, lent(&line), bytes, delimiter);
+    return birdovesta_check_line(bits, lent(&line), bytes, delimiter, first.all + GUARD, first.bytes,
+        second.all + GUARD, second.bytes);
 }
 
 /* Full words */
@@ -321,37 +424,425 @@ static void line_lessons(void)
     told("and 353 bytes: refusal 2", check_line(LEAST, 353, 1024), 2);
 }
 
+/* Any payload of K bits. */
+static void begin_payload(size_t bits)
+{
+    begin();
+    for (size_t place = bits; place % 8 > 0; place++)
+        lent(&payload)[place / 8] &= (uint8_t)~(1u << place % 8);
+}
+
+static unsigned bit(struct buffer *buffer, size_t place)
+{
+    return lent(buffer)[place / 8] >> place % 8 & 1u;
+}
+
 /* From the encoder to the check, for the 16 largest K, so
  * for each K mod 8: the payload comes first, the delimiter
  * last, and the check accepts it. The parity of such payloads
  * is not in the paper, so it is taken as written. */
-static void there_and_back(void)
+static void there_and_back(const char *name)
 {
     int payloads = 1, delimiters = 1, accepted = 1, others = 1;
     for (size_t bits = PAYLOAD_MOST - 15 * LEAST; bits <= PAYLOAD_MOST; bits += LEAST) {
-        size_t bytes = (bits + 7) / 8, delimiter = bits * 77 % 1024;
-        size_t needed = BIRDOVESTA_LINE_BYTES(bits);
-        begin();
-        for (size_t place = bits; place < 8 * bytes; place++)
-            lent(&payload)[place / 8] &= (uint8_t)~(1u << place % 8);
+        size_t delimiter = bits * 77 % 1024, needed = BIRDOVESTA_LINE_BYTES(bits);
+        begin_payload(bits);
         nothing_changes();
-        accepted &= encode(bits, bytes, delimiter, MOST) == 0;
+        accepted &= encode(bits, (bits + 7) / 8, delimiter, MOST) == 0;
         memcpy(lent(&line_later), lent(&line), needed);
         others &= bytes_right();
         for (size_t place = 0; place < 8 * needed; place++) {
-            unsigned found = lent(&line)[place / 8] >> place % 8 & 1;
             if (place < bits)
-                payloads &= found == (lent(&payload)[place / 8] >> place % 8 & 1u);
+                payloads &= bit(&line, place) == bit(&payload, place);
             else if (place >= bits + SENT)
-                delimiters &= found == (delimiter >> (place - bits - SENT) & 1);
+                delimiters &= bit(&line, place) == (delimiter >> (place - bits - SENT) & 1);
         }
         accepted &= check_line(bits, needed, delimiter) == 0;
         others &= bytes_right();
     }
-    fact("16 counts K: payload comes first", payloads);
-    fact("16 counts K: delimiter, then 0s", delimiters);
-    fact("16 counts K: accepted again", accepted);
-    fact("16 counts K: no other byte moved", others);
+    const struct {
+        const char *text;
+        int holds;
+    } facts[] = {
+        { "payload comes first", payloads },
+        { "delimiter, then 0s", delimiters },
+        { "accepted again", accepted },
+        { "no other byte moved", others },
+    };
+    for (size_t n = 0; n < sizeof facts / sizeof *facts; n++) {
+        char text[80];
+        snprintf(text, sizeof text, "%s: %s", name, facts[n].text);
+        fact(text, facts[n].holds);
+    }
+}
+
+/* Other lists than the plain ones */
+
+/* Shortened places are seen through the first list, and are
+ * told by the inner place. The checks are of inner places. */
+static void reversed_lessons(void)
+{
+    put_lists(reversed);
+    begin();
+    zeros(&word, BIRDOVESTA_WORD_BYTES);
+    nothing_changes();
+    told("reversed, all 0: accepted", check_word(LEAST, 2208), 0);
+
+    static const struct {
+        size_t place, bits;
+        uint64_t cause, count, at;
+        const char *text;
+    } lessons[] = {
+        { 0, PAYLOAD_MOST, BIRDOVESTA_SHORTENED, 0, 0, "reversed, bit 0: shortened 0" },
+        { 199, PAYLOAD_MOST, BIRDOVESTA_SHORTENED, 0, 199, "reversed, bit 199: shortened 199" },
+        { 255, PAYLOAD_MOST, BIRDOVESTA_CHECK, 6, 175, "reversed, bit 255: 175 fails 6" },
+        { 256, PAYLOAD_MOST, BIRDOVESTA_CHECK, 6, 256, "reversed, bit 256: 256 fails 6" },
+        { 256, LEAST, BIRDOVESTA_SHORTENED, 0, 256, "K 257, 256: shortened 256" },
+        { 14334, LEAST, BIRDOVESTA_SHORTENED, 0, 14334, "K 257, 14334: shortened 14334" },
+        { 14391, LEAST, BIRDOVESTA_CHECK, 3, 311, "K 257, 14391: 311 fails 3" },
+        { 14592, LEAST, BIRDOVESTA_CHECK, 3, 551, "K 257, 14592: 551 fails 3" },
+    };
+    for (size_t n = 0; n < sizeof lessons / sizeof *lessons; n++) {
+        one_place(lessons[n].place);
+        told(lessons[n].text, check_word(lessons[n].bits, 2208),
+            verdict(lessons[n].cause, lessons[n].count, lessons[n].at));
+    }
+
+    one_place(199);
+    flip(&word, 0);
+    flip(&word, 255);
+    nothing_changes();
+    told("the lowest inner place is told", check_word(PAYLOAD_MOST, 2208), verdict(BIRDOVESTA_SHORTENED, 0, 0));
+
+    begin();
+    zeros(&payload, LEAST_BYTES);
+    nothing_changes();
+    put_line_of_zero(&line_later);
+    told("reversed, zeros: 00, FE 07", encode(LEAST, LEAST_BYTES, 1023, LEAST_LINE), 0);
+
+    line_of_zero();
+    nothing_changes();
+    told("and accepted", check_line(LEAST, LEAST_LINE, 1023), 0);
+    int all = 1;
+    for (size_t place = 0; place < SENT; place += 13) {
+        line_of_zero();
+        flip(&line, LEAST + place);
+        nothing_changes();
+        all &= check_line(LEAST, LEAST_LINE, 1023) == verdict(BIRDOVESTA_PARITY, 0, place) && bytes_right();
+    }
+    fact("its outgoing parity places named", all);
+}
+
+/* The sent parity of any payload, its bits moved on or not. */
+static void put_parity(uint8_t *parity, size_t moved)
+{
+    begin_payload(PAYLOAD_MOST);
+    struct buffer before = payload;
+    for (size_t place = 0; place < PAYLOAD_MOST; place++)
+        if (bit(&before, (place + moved) % PAYLOAD_MOST) != bit(&payload, place))
+            flip(&payload, place);
+    encode(PAYLOAD_MOST, PAYLOAD_MOST / 8, 0, MOST);
+    memcpy(parity, lent(&line) + PAYLOAD_MOST / 8, SENT / 8);
+}
+
+/* What each list does to the parity, told by the parity that
+ * the plain pair gives. */
+static void each_list_alone(void)
+{
+    uint8_t parity[SENT / 8], other[SENT / 8];
+    put_lists(plain);
+    put_parity(parity, 1);
+    put_list(&first, moved_on);
+    put_parity(other, 0);
+    fact("first list: bits from its entries", memcmp(parity, other, SENT / 8) == 0);
+    put_parity(other, 1);
+    fact("and the list does move them", memcmp(parity, other, SENT / 8) != 0);
+
+    put_lists(plain);
+    put_parity(parity, 0);
+    put_list(&second, turned);
+    put_parity(other, 0);
+    fact("second list: so is the parity", memcmp(parity + PUNCTURED / 8, other, (SENT - PUNCTURED) / 8) == 0);
+
+    /* The plain list's places are the lowest of any. */
+    put_lists(plain);
+    begin_payload(PAYLOAD_MOST);
+    nothing_changes();
+    encode(PAYLOAD_MOST, PAYLOAD_MOST / 8, 0, MOST);
+    line_later = line;
+    fill(&line, 170);
+    told("the second may lie in the first",
+        birdovesta_encode(PAYLOAD_MOST, lent(&payload), PAYLOAD_MOST / 8, 0, first.all + GUARD, first.bytes,
+            first.all + GUARD, second.bytes, lent(&line), MOST),
+        0);
+}
+
+/* Any order. All 3,072 parity bits are had from two encodings,
+ * by a second list that sends the first ones and by one that
+ * sends the last ones. With the payload put in inner order
+ * here, they are a full word that is accepted. So the parity
+ * is the right one, and by the second list it is the one that
+ * the encoder sends. */
+static void any_order(void)
+{
+    static struct buffer inner;
+    int accepted = 1, sent = 1, shortened = 1;
+    shuffle(&first);
+    for (size_t bits = LEAST; bits <= PAYLOAD_MOST; bits += 5 * LEAST) {
+        size_t bytes = (bits + 7) / 8;
+        begin_payload(bits);
+        zeros(&inner, BIRDOVESTA_WORD_BYTES);
+        for (size_t t = 0; t < PAYLOAD_PLACES; t++)
+            if (entry(&first, t) < bits && bit(&payload, entry(&first, t)))
+                flip(&inner, t);
+        put_list(&second, plain);
+        accepted &= encode(bits, bytes, 0, MOST) == 0;
+        for (size_t n = 0; n < PUNCTURED; n++)
+            if (bit(&line, bits + n))
+                flip(&inner, PAYLOAD_PLACES + n);
+        put_list(&second, turned);
+        accepted &= encode(bits, bytes, 0, MOST) == 0;
+        for (size_t n = 0; n < SENT; n++)
+            if (bit(&line, bits + n))
+                flip(&inner, PAYLOAD_PLACES + PUNCTURED + n);
+        shuffle(&second);
+        accepted &= encode(bits, bytes, 0, MOST) == 0;
+        for (size_t n = 0; n < SENT; n++)
+            sent &= bit(&line, bits + n) == bit(&inner, PAYLOAD_PLACES + entry(&second, n));
+        word = inner;
+        nothing_changes();
+        accepted &= check_word(bits, 2208) == 0 && bytes_right();
+        /* Another count than the word's: the lowest 1 that is not payload. */
+        size_t lowest = 0;
+        while (!bit(&word, lowest) || entry(&first, lowest) < LEAST)
+            lowest++;
+        uint64_t expected = bits > LEAST ? verdict(BIRDOVESTA_SHORTENED, 0, lowest) : 0;
+        shortened &= check_word(LEAST, 2208) == expected;
+    }
+    fact("any order: full words accepted", accepted);
+    fact("any order: their parity sent", sent);
+    fact("any order: as K 257 shortened", shortened);
+}
+
+static void other_lists(void)
+{
+    reversed_lessons();
+    each_list_alone();
+    any_order();
+    shuffle(&first);
+    shuffle(&second);
+    there_and_back("any order");
+    put_lists(plain);
+}
+
+/* Lists at fault */
+
+static void be_empty(struct list *list)
+{
+    list->bytes = 0;
+}
+
+static void byte_short(struct list *list)
+{
+    list->bytes--;
+}
+
+/* The first places alone, each once. */
+static void entry_short(struct list *list)
+{
+    list->bytes -= 2;
+}
+
+static void byte_long(struct list *list)
+{
+    list->bytes++;
+}
+
+/* One place more, each once. */
+static void entry_long(struct list *list)
+{
+    put_entry(list, list->places, list->places);
+    list->bytes += 2;
+}
+
+static void entry_twice(struct list *list)
+{
+    put_entry(list, 1000, 1001);
+}
+
+static void no_place_0(struct list *list)
+{
+    put_entry(list, 0, 2000);
+}
+
+static void no_last_place(struct list *list)
+{
+    put_entry(list, list->places - 1, list->places - 2);
+}
+
+static void starts_with_length(struct list *list)
+{
+    put_entry(list, 0, list->places);
+}
+
+static void ends_with_length(struct list *list)
+{
+    put_entry(list, list->places - 1, list->places);
+}
+
+static void entry_of_65535(struct list *list)
+{
+    put_entry(list, 256, 65535);
+}
+
+static void high_byte_first(struct list *list)
+{
+    for (size_t t = 0; t < list->places; t++)
+        put_entry(list, t, t % 256 * 256 + t / 256);
+}
+
+/* The answers of a call that is fine but for the lists, and
+ * of the same call with each other fault, the last time with
+ * several. Whether no byte has moved is what comes back. */
+
+static int all_encodes(uint64_t *answers)
+{
+    zeros(&payload, LEAST_BYTES + 1);
+    nothing_changes();
+    answers[0] = encode(LEAST, LEAST_BYTES, 1023, LEAST_LINE);
+    answers[1] = encode(0, LEAST_BYTES, 1023, LEAST_LINE);
+    answers[2] = encode(LEAST + 1, LEAST_BYTES, 1023, LEAST_LINE);
+    answers[3] = encode(LEAST, LEAST_BYTES + 1, 1023, LEAST_LINE);
+    answers[4] = encode(LEAST, LEAST_BYTES, 1024, LEAST_LINE);
+    answers[5] = encode(LEAST, LEAST_BYTES, 1023, LEAST_LINE - 1);
+    int kept = bytes_right();
+    flip(&payload, LEAST);
+    nothing_changes();
+    answers[6] = encode(LEAST, LEAST_BYTES, 1023, LEAST_LINE);
+    answers[7] = encode(PAYLOAD_MOST + 1, LEAST_BYTES, 1024, 0);
+    return kept && bytes_right();
+}
+
+static int all_words(uint64_t *answers)
+{
+    zeros(&word, BIRDOVESTA_WORD_BYTES);
+    nothing_changes();
+    answers[0] = check_word(LEAST, 2208);
+    answers[1] = check_word(0, 2208);
+    answers[2] = check_word(LEAST + 1, 2208);
+    answers[3] = check_word(LEAST, 2207);
+    answers[4] = check_word(PAYLOAD_MOST + 1, 0);
+    int kept = bytes_right();
+    flip(&word, 0);
+    nothing_changes();
+    answers[5] = check_word(LEAST, 2208);
+    kept &= bytes_right();
+    flip(&word, PAYLOAD_PLACES - 1);
+    nothing_changes();
+    answers[6] = check_word(LEAST, 2208);
+    answers[7] = check_word(1, 2209);
+    return kept && bytes_right();
+}
+
+static int all_lines(uint64_t *answers)
+{
+    put_line_of_zero(&line);
+    nothing_changes();
+    answers[0] = check_line(LEAST, LEAST_LINE, 1023);
+    answers[1] = check_line(0, LEAST_LINE, 1023);
+    answers[2] = check_line(LEAST + 1, LEAST_LINE, 1023);
+    answers[3] = check_line(LEAST, LEAST_LINE - 1, 1023);
+    answers[4] = check_line(LEAST, LEAST_LINE, 1024);
+    answers[5] = check_line(LEAST, LEAST_LINE, 1022);
+    int kept = bytes_right();
+    flip(&line, LEAST + SENT + 10);
+    nothing_changes();
+    answers[6] = check_line(LEAST, LEAST_LINE, 1023);
+    answers[7] = check_line(PAYLOAD_MOST + 1, 0, 1024);
+    return kept && bytes_right();
+}
+
+static const struct {
+    const char *name;
+    int (*make)(uint64_t *answers);
+    uint64_t plain[8]; /* the answers with the plain pair */
+} calls[] = {
+    { "encode", all_encodes, { 0, 1, 10, 2, 4, 5, 3, 1 } },
+    { "check_word", all_words,
+        { 0, 1, 10, 2, 1, VERDICT(BIRDOVESTA_CHECK, 6, 176), VERDICT(BIRDOVESTA_SHORTENED, 0, 14591), 10 } },
+    { "check_line", all_lines, { 0, 1, 10, 2, 4, VERDICT(BIRDOVESTA_DELIMITER, 0, 0), 3, 1 } },
+};
+
+/* Each of these calls is refused by 16, whatever else is at
+ * fault, and no byte is moved. */
+static void all_refused(const char *list, const char *fault)
+{
+    char text[120], others[400] = "";
+    for (size_t n = 0; n < sizeof calls / sizeof *calls; n++) {
+        uint64_t answers[8];
+        begin();
+        int same = calls[n].make(answers);
+        for (size_t m = 0; m < 8; m++)
+            same &= answers[m] == 16;
+        if (!same)
+            snprintf(others + strlen(others), 100, "  not in %s\n", calls[n].name);
+    }
+    snprintf(text, sizeof text, "%s %s: 16", list, fault);
+    fact(text, *others == 0);
+    printf("%s", others);
+}
+
+static void lists_at_fault(void)
+{
+    /* The same calls with the plain pair. The encoder's first
+     * one writes. */
+    put_lists(plain);
+    for (size_t n = 0; n < sizeof calls / sizeof *calls; n++) {
+        uint64_t answers[8];
+        char text[80];
+        begin();
+        calls[n].make(answers);
+        snprintf(text, sizeof text, "%s, no list at fault", calls[n].name);
+        fact(text, memcmp(answers, calls[n].plain, sizeof answers) == 0);
+    }
+
+    static const struct {
+        const char *text;
+        void (*spoil)(struct list *list);
+    } faults[] = {
+        { "is empty", be_empty },
+        { "is a byte short", byte_short },
+        { "is an entry short", entry_short },
+        { "is a byte long", byte_long },
+        { "is an entry long", entry_long },
+        { "has an entry twice", entry_twice },
+        { "has no place 0", no_place_0 },
+        { "has no last place", no_last_place },
+        { "starts with its length", starts_with_length },
+        { "ends with its length", ends_with_length },
+        { "has 65535 in it", entry_of_65535 },
+        { "is high byte first", high_byte_first },
+    };
+    for (size_t n = 0; n < sizeof faults / sizeof *faults; n++)
+        for (unsigned lists = 1; lists < 4; lists++) {
+            put_lists(plain);
+            if (lists & 1)
+                faults[n].spoil(&first);
+            if (lists & 2)
+                faults[n].spoil(&second);
+            list_is_put(&first);
+            list_is_put(&second);
+            all_refused(lists == 1 ? "first" : lists == 2 ? "second" : "each", faults[n].text);
+        }
+
+    /* Each list in the other's place. */
+    put_lists(plain);
+    first.bytes = BIRDOVESTA_SECOND_BYTES;
+    memcpy(second.all, first.all, sizeof second.all);
+    second.bytes = BIRDOVESTA_FIRST_BYTES;
+    list_is_put(&second);
+    all_refused("each", "is the other one");
+    put_lists(plain);
 }
 
 /* The coax codes */
@@ -521,10 +1012,13 @@ static void coax_lessons(void)
 
 int main(void)
 {
+    put_lists(plain);
     full_word_lessons();
     encoder_lessons();
     line_lessons();
-    there_and_back();
+    there_and_back("16 counts K");
+    other_lists();
+    lists_at_fault();
     coax_lessons();
     printf("%u right, %u wrong\n", right, wrong);
     return wrong > 0;

@@ -10,9 +10,9 @@
  * is measured: where the C library is linked dynamically, its
  * functions may be looked up at their first call.
  *
- * The inputs lead to every kind of answer, for each K and for
- * each coax code. What must be answered is from paper 01 and
- * W8, and is compared too.
+ * The inputs lead to every kind of answer, for each K with two
+ * pairs of lists and for each coax code. What must be answered
+ * is from paper 01, W2 and W8, and is compared too.
  *
  * Prints one fact a line, of at most 40 characters, and ends
  * with `N right, M wrong`. Exit status 1 if any is wrong.
@@ -25,11 +25,12 @@
 #include <ucontext.h>
 
 enum {
-    STACK = 65536,
+    STACK = 131072,
     LEAST = 257, /* one data block: the least payload */
     PAYLOAD_MOST = 14392,
     PAYLOAD_PLACES = 14592,
     PLACES = 17664,
+    PARITY_PLACES = PLACES - PAYLOAD_PLACES,
     SENT = 2560,
     MOST = 2304 /* the most bytes lent */
 };
@@ -48,7 +49,9 @@ static void fact(int holds, const char *call, const char *text)
 /* The calls, with what they are lent. */
 
 static uint8_t payload[MOST], word[MOST], line[MOST];
+static uint8_t first[BIRDOVESTA_FIRST_BYTES], second[BIRDOVESTA_SECOND_BYTES];
 static size_t bits, bytes, delimiter, room;
+static size_t first_bytes = sizeof first, second_bytes = sizeof second;
 static uint64_t answer;
 
 static void nothing(void)
@@ -58,17 +61,17 @@ static void nothing(void)
 
 static void encode(void)
 {
-    answer = birdovesta_encode(bits, payload, bytes, delimiter, line, room);
+    answer = birdovesta_encode(bits, payload, bytes, delimiter, first, first_bytes, second, second_bytes, line, room);
 }
 
 static void check_word(void)
 {
-    answer = birdovesta_check_word(bits, word, bytes);
+    answer = birdovesta_check_word(bits, word, bytes, first, first_bytes, second, second_bytes);
 }
 
 static void check_line(void)
 {
-    answer = birdovesta_check_line(bits, line, bytes, delimiter);
+    answer = birdovesta_check_line(bits, line, bytes, delimiter, first, first_bytes, second, second_bytes);
 }
 
 static const struct coax {
@@ -118,10 +121,14 @@ static size_t depth(void (*call)(void))
     static const int values[] = { 0xA5, 0x5A };
     size_t deepest = 0;
     for (size_t n = 0; n < sizeof values / sizeof *values; n++) {
+        uint8_t kept_as[64];
+        memset(kept_as, values[n], sizeof kept_as);
         memset(stack, values[n], STACK);
         chosen = call;
         on_stack();
         size_t kept = 0;
+        while (kept < STACK && memcmp(stack + kept, kept_as, sizeof kept_as) == 0)
+            kept += sizeof kept_as;
         while (kept < STACK && stack[kept] == values[n])
             kept++;
         if (STACK - kept > deepest)
@@ -191,6 +198,61 @@ static void put_payload(int kind)
         payload[place / 8] &= (uint8_t)~(1u << place % 8);
 }
 
+/* Lists */
+
+static size_t entry(const uint8_t *list, size_t t)
+{
+    return list[2 * t] + 256u * list[2 * t + 1];
+}
+
+static void put_entry(uint8_t *list, size_t t, size_t place)
+{
+    list[2 * t] = (uint8_t)(place % 256);
+    list[2 * t + 1] = (uint8_t)(place / 256);
+}
+
+/* The plain list or, where a step is given, entries in another
+ * order: the step has no factor in common with the places. */
+static void put_list(uint8_t *list, size_t places, size_t step)
+{
+    for (size_t t = 0; t < places; t++)
+        put_entry(list, t, t * step % places);
+}
+
+/* Where a padded place goes. */
+static size_t inner(size_t place)
+{
+    size_t t = 0;
+    while (entry(first, t) != place)
+        t++;
+    return t;
+}
+
+/* A call with lists at fault: each list, and its length, its
+ * first entry or its last place. */
+static void lists_at_fault(struct measured *of)
+{
+    first_bytes--;
+    input(of, 16);
+    first_bytes++;
+    second_bytes--;
+    input(of, 16);
+    second_bytes++;
+    struct {
+        uint8_t *list;
+        size_t places;
+    } lists[] = { { first, PAYLOAD_PLACES }, { second, PARITY_PLACES } };
+    for (size_t n = 0; n < 2; n++)
+        for (size_t at = 0; at < lists[n].places; at += lists[n].places - 1) {
+            size_t before = entry(lists[n].list, at);
+            put_entry(lists[n].list, at, lists[n].places);
+            input(of, 16);
+            put_entry(lists[n].list, at, entry(lists[n].list, 1));
+            input(of, 16);
+            put_entry(lists[n].list, at, before);
+        }
+}
+
 static void encodings(void)
 {
     for (int kind = 0; kind < 3; kind++) {
@@ -214,6 +276,7 @@ static void encodings(void)
     bits++;
     input(&of_encode, bits > PAYLOAD_MOST ? 1 : 10);
     bits--;
+    lists_at_fault(&of_encode);
 }
 
 static void full_words(void)
@@ -221,25 +284,27 @@ static void full_words(void)
     bytes = BIRDOVESTA_WORD_BYTES;
     memset(word, 0, sizeof word);
     input(&of_word, 0);
-    size_t spoilt[] = { 0, bits - 1, PAYLOAD_PLACES, PAYLOAD_PLACES + SENT, PLACES - 1 };
+    size_t spoilt[] = { inner(0), inner(bits - 1), PAYLOAD_PLACES, PAYLOAD_PLACES + SENT, PLACES - 1 };
     for (size_t n = 0; n < sizeof spoilt / sizeof *spoilt; n++) {
         memset(word, 0, sizeof word);
         flip(word, spoilt[n]);
         input(&of_word, cause(BIRDOVESTA_CHECK));
     }
-    memset(word, 0, sizeof word);
-    fill(word, bits / 8);
-    fill(word + PAYLOAD_PLACES / 8, (PLACES - PAYLOAD_PLACES) / 8);
+    fill(word, sizeof word);
+    for (size_t t = 0; t < PAYLOAD_PLACES; t++)
+        if (entry(first, t) >= bits)
+            word[t / 8] &= (uint8_t)~(1u << t % 8);
     input(&of_word, cause(BIRDOVESTA_CHECK));
-    flip(word, PAYLOAD_PLACES - 1);
+    flip(word, inner(PAYLOAD_PLACES - 1));
     input(&of_word, cause(BIRDOVESTA_SHORTENED));
-    flip(word, bits);
+    flip(word, inner(bits));
     input(&of_word, cause(BIRDOVESTA_SHORTENED));
     bytes--;
     input(&of_word, 2);
     bits++;
     input(&of_word, bits > PAYLOAD_MOST ? 1 : 10);
     bits--;
+    lists_at_fault(&of_word);
 }
 
 /* The line word that the encoder writes of any payload. */
@@ -273,6 +338,7 @@ static void line_words(void)
     bits++;
     input(&of_line, bits > PAYLOAD_MOST ? 1 : 10);
     bits--;
+    lists_at_fault(&of_line);
 }
 
 static void coax_encodings(void)
@@ -338,11 +404,18 @@ static void facts(const struct measured *of)
 
 int main(void)
 {
-    for (bits = LEAST; bits <= PAYLOAD_MOST; bits += LEAST) {
-        encodings();
-        full_words();
-        line_words();
-    }
+    /* The lists by turns: plain for one K, in another order
+     * for the next, both for the largest. */
+    for (bits = LEAST; bits <= PAYLOAD_MOST; bits += LEAST)
+        for (size_t other = 0; other < 2; other++) {
+            if (bits < PAYLOAD_MOST && bits / LEAST % 2 != other)
+                continue;
+            put_list(first, PAYLOAD_PLACES, other ? 6007 : 1);
+            put_list(second, PARITY_PLACES, other ? 1001 : 1);
+            encodings();
+            full_words();
+            line_words();
+        }
     bits = 0;
     input(&of_encode, 1);
     input(&of_word, 1);

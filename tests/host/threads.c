@@ -1,7 +1,7 @@
 /* Threads that make all calls at once, those of the coax codes
- * too, each with inputs of its own and with bytes that all of
- * them read. Each must get what the same calls gave when
- * nobody else made any.
+ * too, each with inputs and lists of its own and with bytes
+ * and lists that all of them read. Each must get what the same
+ * calls gave when nobody else made any.
  *
  * What the calls give alone is taken as it is: host.c and the
  * yardstick compare that with the papers.
@@ -18,9 +18,11 @@
 
 enum {
     THREADS = 8,
-    ROUNDS = 500,
+    ROUNDS = 100,
     BLOCK = 257, /* a data block */
     SENT = 2560,
+    FIRST = 14592, /* the places of each list */
+    SECOND = 3072,
     COMMON = 407, /* the common delimiter */
     CODES = 2, /* the coax codes */
     MOST = 2304 /* the most bytes lent */
@@ -39,6 +41,7 @@ static const struct coax {
 struct input {
     size_t bits, delimiter;
     uint8_t payload[MOST], word[MOST], line[MOST], spoilt[MOST];
+    uint8_t first[BIRDOVESTA_FIRST_BYTES], second[BIRDOVESTA_SECOND_BYTES];
     struct {
         uint8_t payload[MOST], word[MOST], spoilt[MOST];
     } coax[CODES];
@@ -46,8 +49,8 @@ struct input {
 
 /* What it gets: the answers, and the bytes written. */
 struct output {
-    uint64_t encode[3], word[2], line[3];
-    uint8_t own[MOST], common[MOST];
+    uint64_t encode[4], word[3], line[4];
+    uint8_t own[MOST], common[MOST], mixed[MOST];
     struct coax_output {
         uint64_t encode[3], check[3];
         uint8_t own[MOST], common[MOST];
@@ -76,19 +79,25 @@ static void fact(const char *text, int holds)
 
 /* All calls, once each. */
 
-static uint64_t encode(const struct input *in, size_t delimiter, uint8_t *line)
+/* By the lists of one input, the payload or word of another. */
+
+static uint64_t encode(const struct input *in, const struct input *lists, size_t delimiter, uint8_t *line)
 {
-    return birdovesta_encode(in->bits, in->payload, (in->bits + 7) / 8, delimiter, line, MOST);
+    return birdovesta_encode(in->bits, in->payload, (in->bits + 7) / 8, delimiter, lists->first, sizeof lists->first,
+        lists->second, sizeof lists->second, line, MOST);
 }
 
-static uint64_t check_word(const struct input *in)
+static uint64_t check_word(const struct input *in, const struct input *lists)
 {
-    return birdovesta_check_word(in->bits, in->word, BIRDOVESTA_WORD_BYTES);
+    return birdovesta_check_word(in->bits, in->word, BIRDOVESTA_WORD_BYTES, lists->first, sizeof lists->first,
+        lists->second, sizeof lists->second);
 }
 
-static uint64_t check_line(const struct input *in, const uint8_t *line, size_t delimiter)
+static uint64_t check_line(
+    const struct input *in, const struct input *lists, const uint8_t *line, size_t delimiter, size_t second_bytes)
 {
-    return birdovesta_check_line(in->bits, line, BIRDOVESTA_LINE_BYTES(in->bits), delimiter);
+    return birdovesta_check_line(in->bits, line, BIRDOVESTA_LINE_BYTES(in->bits), delimiter, lists->first,
+        sizeof lists->first, lists->second, second_bytes);
 }
 
 static uint64_t encode_coax(const struct input *in, size_t n, uint8_t *word, size_t room)
@@ -116,14 +125,17 @@ static void round_of_calls(size_t thread, struct output *out)
 {
     const struct input *own = &inputs[thread], *common = &inputs[THREADS];
     memset(out, 0, sizeof *out);
-    out->encode[0] = encode(own, own->delimiter, out->own);
-    out->line[0] = check_line(own, own->line, own->delimiter);
-    out->word[0] = check_word(own);
-    out->encode[1] = encode(common, own->delimiter, out->common);
-    out->line[1] = check_line(own, own->spoilt, own->delimiter);
-    out->word[1] = check_word(common);
-    out->encode[2] = encode(own, 1024, out->own);
-    out->line[2] = check_line(common, common->line, own->delimiter);
+    out->encode[0] = encode(own, own, own->delimiter, out->own);
+    out->line[0] = check_line(own, own, own->line, own->delimiter, sizeof own->second);
+    out->word[0] = check_word(own, own);
+    out->encode[1] = encode(common, common, own->delimiter, out->common);
+    out->line[1] = check_line(own, own, own->spoilt, own->delimiter, sizeof own->second);
+    out->word[1] = check_word(common, common);
+    out->encode[2] = encode(own, own, 1024, out->own);
+    out->line[2] = check_line(common, common, common->line, own->delimiter, sizeof common->second);
+    out->encode[3] = encode(common, own, COMMON, out->mixed);
+    out->word[2] = check_word(own, common);
+    out->line[3] = check_line(own, own, own->line, own->delimiter, sizeof own->second - 2);
     /* The codes by turns, so that threads are in both. */
     for (size_t n = 0; n < CODES; n++) {
         size_t turn = (thread + n) % CODES;
@@ -137,7 +149,8 @@ static void compare(struct differences *count, const struct output *got, const s
 {
     count->encode += memcmp(got->encode, meant->encode, sizeof got->encode) != 0
         || memcmp(got->own, meant->own, sizeof got->own) != 0
-        || memcmp(got->common, meant->common, sizeof got->common) != 0;
+        || memcmp(got->common, meant->common, sizeof got->common) != 0
+        || memcmp(got->mixed, meant->mixed, sizeof got->mixed) != 0;
     count->word += memcmp(got->word, meant->word, sizeof got->word) != 0;
     count->line += memcmp(got->line, meant->line, sizeof got->line) != 0;
     for (size_t n = 0; n < CODES; n++) {
@@ -178,16 +191,33 @@ static void fill(uint8_t *bytes, size_t count)
     }
 }
 
-/* Each has another K, payload, delimiter and spoilt places.
- * A thread's delimiter differs from the common one in one bit. */
+static void put_entry(uint8_t *list, size_t t, size_t place)
+{
+    list[2 * t] = (uint8_t)(place % 256);
+    list[2 * t + 1] = (uint8_t)(place / 256);
+}
+
+/* Each place once, moved on by so many. */
+static void put_list(uint8_t *list, size_t places, size_t by)
+{
+    for (size_t t = 0; t < places; t++)
+        put_entry(list, t, (t + by) % places);
+}
+
+/* Each has another K, payload, delimiter, other lists and
+ * spoilt places. A thread's delimiter differs from the common
+ * one in one bit. The place of a word that is 1 takes payload
+ * by its own lists, and by those of any other. */
 static void make(size_t n)
 {
     struct input *in = &inputs[n];
     in->bits = BLOCK * (7 * n + 1 - n / THREADS);
     in->delimiter = n < THREADS ? COMMON ^ 1u << n : COMMON;
+    put_list(in->first, FIRST, 11 * n);
+    put_list(in->second, SECOND, 331 * n);
     fill(in->payload, in->bits / 8);
-    flip(in->word, 29 * n);
-    encode(in, in->delimiter, in->line);
+    flip(in->word, 19 * n);
+    encode(in, in, in->delimiter, in->line);
     memcpy(in->spoilt, in->line, MOST);
     flip(in->spoilt, in->bits + (n + 1) * (SENT / THREADS / 2));
     for (size_t c = 0; c < CODES; c++) {
@@ -215,6 +245,7 @@ static int all_differ(void)
         for (size_t other = 0; other < n; other++)
             differ &= memcmp(alone[n].own, alone[other].own, MOST) != 0
                 && memcmp(alone[n].common, alone[other].common, MOST) != 0
+                && memcmp(alone[n].mixed, alone[other].mixed, MOST) != 0
                 && alone[n].word[0] != alone[other].word[0]
                 && alone[n].line[1] != alone[other].line[1]
                 && alone[n].line[2] != alone[other].line[2]

@@ -7,11 +7,32 @@ extern "C" {
         payload: *const u8,
         payload_bytes: usize,
         delimiter: usize,
+        first: *const u8,
+        first_bytes: usize,
+        second: *const u8,
+        second_bytes: usize,
         line: *mut u8,
         line_bytes: usize,
     ) -> u64;
-    fn birdovesta_check_word(bits: usize, word: *const u8, word_bytes: usize) -> u64;
-    fn birdovesta_check_line(bits: usize, line: *const u8, line_bytes: usize, delimiter: usize) -> u64;
+    fn birdovesta_check_word(
+        bits: usize,
+        word: *const u8,
+        word_bytes: usize,
+        first: *const u8,
+        first_bytes: usize,
+        second: *const u8,
+        second_bytes: usize,
+    ) -> u64;
+    fn birdovesta_check_line(
+        bits: usize,
+        line: *const u8,
+        line_bytes: usize,
+        delimiter: usize,
+        first: *const u8,
+        first_bytes: usize,
+        second: *const u8,
+        second_bytes: usize,
+    ) -> u64;
     fn birdovesta_encode_16200(
         bits: usize,
         payload: *const u8,
@@ -30,16 +51,50 @@ extern "C" {
     fn birdovesta_check_5940(bits: usize, word: *const u8, word_bytes: usize) -> u64;
 }
 
-pub fn encode(bits: usize, payload: &[u8], delimiter: usize, line: &mut [u8]) -> u64 {
-    unsafe { birdovesta_encode(bits, payload.as_ptr(), payload.len(), delimiter, line.as_mut_ptr(), line.len()) }
+pub fn encode(bits: usize, payload: &[u8], delimiter: usize, first: &[u8], second: &[u8], line: &mut [u8]) -> u64 {
+    unsafe {
+        birdovesta_encode(
+            bits,
+            payload.as_ptr(),
+            payload.len(),
+            delimiter,
+            first.as_ptr(),
+            first.len(),
+            second.as_ptr(),
+            second.len(),
+            line.as_mut_ptr(),
+            line.len(),
+        )
+    }
 }
 
-pub fn check_word(bits: usize, word: &[u8]) -> u64 {
-    unsafe { birdovesta_check_word(bits, word.as_ptr(), word.len()) }
+pub fn check_word(bits: usize, word: &[u8], first: &[u8], second: &[u8]) -> u64 {
+    unsafe {
+        birdovesta_check_word(
+            bits,
+            word.as_ptr(),
+            word.len(),
+            first.as_ptr(),
+            first.len(),
+            second.as_ptr(),
+            second.len(),
+        )
+    }
 }
 
-pub fn check_line(bits: usize, line: &[u8], delimiter: usize) -> u64 {
-    unsafe { birdovesta_check_line(bits, line.as_ptr(), line.len(), delimiter) }
+pub fn check_line(bits: usize, line: &[u8], delimiter: usize, first: &[u8], second: &[u8]) -> u64 {
+    unsafe {
+        birdovesta_check_line(
+            bits,
+            line.as_ptr(),
+            line.len(),
+            delimiter,
+            first.as_ptr(),
+            first.len(),
+            second.as_ptr(),
+            second.len(),
+        )
+    }
 }
 
 /// The calls of a coax code.

@@ -1,12 +1,16 @@
 //! What the programs share that compare an archive with the yardstick over seeded cases.
 //!
 //!   Lent            bytes to be lent, with guard bytes on both sides
+//!   LentLists       the two lists, lent like this to be read
 //!   Cases           what was reached, how many cases there were, and how many were wrong
 //!   Cases::judge, compare   one case, by its answer or by its number alone
 //!   Cases::end      says all that, and ends the program
 //!   name_of, before, all_pairs      the names of what is reached
 //!   sets_of         every set of faults
-//!   clear_from, damage, payload, faulty_run, faulty_word, other_count   how inputs are made
+//!   clear_from, damage, payload, faulty_run     how inputs are made
+//!   faulty_word, other_count                    those of a coax code
+//!   any_count, faulty_count, faulty_delimiter   those of the fibre code
+//!   too_many_held, faulty_counts                those of a stream
 
 use crate::paper::*;
 use crate::random::Random;
@@ -37,6 +41,30 @@ impl Lent {
         let mut all = self.all.clone();
         all[GUARD..GUARD + bytes.len()].copy_from_slice(bytes);
         all
+    }
+}
+
+/// Nobody writes to them, so they must stay as they are.
+pub struct LentLists {
+    first: Lent,
+    second: Lent,
+    before: [Vec<u8>; 2],
+}
+
+impl LentLists {
+    pub fn new(random: &mut Random, first: &[u8], second: &[u8]) -> LentLists {
+        let (first, second) = (Lent::new(random, first), Lent::new(random, second));
+        let before = [first.all.clone(), second.all.clone()];
+        LentLists { first, second, before }
+    }
+
+    /// The first, and the second.
+    pub fn parts(&mut self) -> (&[u8], &[u8]) {
+        (self.first.part(), self.second.part())
+    }
+
+    pub fn same(&self) -> bool {
+        self.first.all == self.before[0] && self.second.all == self.before[1]
     }
 }
 
@@ -214,5 +242,108 @@ pub fn other_count(random: &mut Random, right: usize) -> usize {
         other_count(random, right)
     } else {
         count
+    }
+}
+
+/// A payload count of whole data blocks, each remainder by 8 in turn: the least, any, or the largest. A data block has
+/// 1 bit more than a multiple of 8, so the remainder is also that of the number of blocks.
+pub fn any_count(random: &mut Random, n: usize) -> usize {
+    let (remainder, size) = (n % 8, n / 8 % 3);
+    let least = if remainder == 0 { 8 } else { remainder };
+    let most = PAYLOAD_MOST / DATA_BLOCK - (8 - remainder) % 8;
+    let blocks = match size {
+        0 => least,
+        1 => least + 8 * random.below((most - least) / 8 + 1),
+        _ => most,
+    };
+    DATA_BLOCK * blocks
+}
+
+/// A payload count with a broken block: 1 more or 1 less than whole blocks, blocks of 256 bits, or any.
+pub fn broken_count(random: &mut Random) -> usize {
+    let blocks = 1 + random.below(PAYLOAD_MOST / DATA_BLOCK - 1);
+    match random.below(5) {
+        0 => 1,
+        1 => DATA_BLOCK * blocks + 1,
+        2 => DATA_BLOCK * blocks - 1,
+        3 => (DATA_BLOCK - 1) * blocks,
+        _ => DATA_BLOCK * blocks + 1 + random.below(DATA_BLOCK - 1),
+    }
+}
+
+/// A payload count: 0 or too large if faults has 1; not of whole data blocks if it has 10, else of whole ones; one
+/// whose run of bits has unused bits if it has 3.
+pub fn faulty_count(random: &mut Random, n: usize, faults: &[u64], huge: bool, run: fn(usize) -> usize) -> usize {
+    loop {
+        let k = if faults.contains(&1) {
+            match random.below(if huge { 7 } else { 3 }) {
+                0 => 0,
+                1 => PAYLOAD_MOST + 1,
+                2 => PAYLOAD_MOST + 1 + random.below(300),
+                3 => (1 << 16) + 1 + random.below(PAYLOAD_MOST),
+                4 => (1 << 32) + 1 + random.below(PAYLOAD_MOST),
+                5 => (1 << 63) + 1 + random.below(PAYLOAD_MOST),
+                _ => usize::MAX - random.below(3000),
+            }
+        } else if faults.contains(&10) {
+            broken_count(random)
+        } else {
+            let n = n + random.below(24);
+            any_count(random, n)
+        };
+        let blocks_as_meant = faults.contains(&10) == (k % DATA_BLOCK != 0);
+        if blocks_as_meant && !(faults.contains(&3) && run(k) % 8 == 0) {
+            return k;
+        }
+    }
+}
+
+/// A delimiter, too large if faults has 4.
+pub fn faulty_delimiter(random: &mut Random, faults: &[u64]) -> usize {
+    if !faults.contains(&4) {
+        return match random.below(4) {
+            0 => 0,
+            1 => DELIMITER_MOST,
+            _ => random.below(DELIMITER_MOST + 1),
+        };
+    }
+    match random.below(5) {
+        0 => DELIMITER_MOST + 1,
+        1 => DELIMITER_MOST + 1 + random.below(5000),
+        2 => (1 << 16) + random.below(1024),
+        3 => (1 << 32) + random.below(1024),
+        _ => usize::MAX,
+    }
+}
+
+/// A count of bits held that is above the payload's most.
+pub fn too_many_held(random: &mut Random, most: usize) -> usize {
+    match random.below(6) {
+        0 => most + 1,
+        1 => most + 1 + random.below(4000),
+        2 => (1 << 16) + random.below(most + 1),
+        3 => (1 << 32) + random.below(most + 1),
+        4 => (1 << 63) + random.below(most + 1),
+        _ => usize::MAX - random.below(100),
+    }
+}
+
+/// The bits held and those of a piece: too many held if faults has 7, too many together if it has 6, unused bits in the
+/// last byte if it has 3. Whoever holds too many has too many together.
+pub fn faulty_counts(random: &mut Random, faults: &[u64], most: usize) -> (usize, usize) {
+    loop {
+        let held = if faults.contains(&7) { too_many_held(random, most) } else { random.below(most + 1) };
+        let left = most.saturating_sub(held);
+        let count = if !faults.contains(&6) {
+            random.below(if faults.contains(&7) { 3000 } else { left + 1 })
+        } else if faults.contains(&2) && random.below(2) == 0 {
+            // as long as it likes, as its bytes are not all there
+            [1 << 16, 1 << 32, usize::MAX - held.min(20000), usize::MAX][random.below(4)]
+        } else {
+            left + 1 + random.below(300)
+        };
+        if !faults.contains(&3) || count % 8 > 0 {
+            return (held, count);
+        }
     }
 }

@@ -24,7 +24,7 @@ mod table;
 
 use cases::*;
 use coax::Coax;
-use paper::{bit, bytes_for, flip, Answer};
+use paper::{bit, bytes_for, flip, part, Answer};
 use stream::Stream;
 
 /// The refusals of each operation, in its order. Those of complete are the code's.
@@ -199,15 +199,6 @@ impl Comparison<'_> {
         written
     }
 
-    /// So many bits of a payload, from a place on.
-    fn part(u: &[u8], from: usize, count: usize) -> Vec<u8> {
-        let mut part = vec![0; bytes_for(count)];
-        for place in (0..count).filter(|&place| bit(u, from + place) == 1) {
-            flip(&mut part, place);
-        }
-        part
-    }
-
     /// The size of the next piece, where so many bits are still to come.
     fn size(&mut self, left: usize) -> usize {
         let block = self.code.block;
@@ -241,7 +232,7 @@ impl Comparison<'_> {
         while state.ours.held < bits {
             let held = state.ours.held;
             let count = size(self, bits - held);
-            self.piece(&mut state, count, &Self::part(u, held, count), Answer::Fine);
+            self.piece(&mut state, count, &part(u, held, count), Answer::Fine);
             if disturbed && self.below(4) == 0 {
                 self.refused_piece(&mut state);
             }
@@ -320,44 +311,11 @@ impl Comparison<'_> {
         }
     }
 
-    /// A count of bits held that is above the payload.
-    fn too_many_held(&mut self) -> usize {
-        let most = self.code.payload;
-        match self.below(6) {
-            0 => most + 1,
-            1 => most + 1 + self.below(4000),
-            2 => (1 << 16) + self.below(most + 1),
-            3 => (1 << 32) + self.below(most + 1),
-            4 => (1 << 63) + self.below(most + 1),
-            _ => usize::MAX - self.below(100),
-        }
-    }
-
-    /// The bits held and those of a piece: too many held if faults has 7, too many together if it has 6, unused bits
-    /// in the last byte if it has 3. Whoever holds too many has too many together.
-    fn faulty_counts(&mut self, faults: &[u64]) -> (usize, usize) {
-        loop {
-            let held = if faults.contains(&7) { self.too_many_held() } else { self.below(self.code.payload + 1) };
-            let left = self.code.payload.saturating_sub(held);
-            let count = if !faults.contains(&6) {
-                self.below(if faults.contains(&7) { 3000 } else { left + 1 })
-            } else if faults.contains(&2) && self.below(2) == 0 {
-                // as long as it likes, as its bytes are not all there
-                [1 << 16, 1 << 32, usize::MAX - held.min(20000), usize::MAX][self.below(4)]
-            } else {
-                left + 1 + self.below(300)
-            };
-            if !faults.contains(&3) || count % 8 > 0 {
-                return (held, count);
-            }
-        }
-    }
-
     fn refused_streams(&mut self) {
         let (bits, needed) = (self.code.payload, self.code.parity_bytes());
         for faults in sets_of(&PIECE) {
             for n in 0..REFUSED_EACH {
-                let (held, count) = self.faulty_counts(&faults);
+                let (held, count) = faulty_counts(&mut self.cases.random, &faults, bits);
                 let bytes = faulty_run(&mut self.cases.random, &faults, count);
                 let checks = self.outside_checks(n);
                 let mut state = self.state(Stream { held, checks });
@@ -368,7 +326,7 @@ impl Comparison<'_> {
         for faults in sets_of(&FINISH) {
             for n in 0..REFUSED_EACH {
                 let held = if faults.contains(&7) {
-                    self.too_many_held()
+                    too_many_held(&mut self.cases.random, bits)
                 } else if faults.contains(&1) {
                     [0, bits - 1, bits - 8, self.below(bits)][n % 4]
                 } else {

@@ -1,19 +1,24 @@
-//! Paper 01, as amended by W4, in plain Rust, by the definitions: what the archive must answer. It shares no code with the
-//! proved crates, has its own copy of Table 142-1, and finds the parity by Gaussian elimination.
-//! It is slow, and unproved.
+//! Paper 01, as amended by W4, in plain Rust, by the definitions. It shares no code with the proved crates, has its own
+//! copy of Table 142-1, and finds the parity by Gaussian elimination. It is slow, and unproved.
+//! Both interleavers keep the order here, as paper 01 says, and there are no lists. So its words are those that the
+//! plain pair of lists must give. What the archive must answer for any pair is in lists.rs, over the same code.
 //!
 //!   bit, flip, put  bit n of a run of bytes, and the run with it inverted, or with another in its place
+//!   part            so many bits of a run, from a place on
 //!   bytes_for       the bytes that a run of b bits takes
 //!   line_bits       the bits of the line word of K payload bits
 //!   line_word       the line word of a full word and a delimiter
 //!   refusal_of_count, unused_set    what refusals 1, 10 and 3 ask
+//!   refusal_of_encode, refusal_of_word, refusal_of_line     what each call refuses, but for its lists
+//!   delimiter_verdict   the verdict on a line word whose sent parity is right
 //!   has_one         whether a check's row has a one at a place
 //!   Set, inverse, product   rows of bits: the inverse of a square of them, and their product with a column
 //!   Code            the places of each check, and the inverse of the parity part
 //!   Code::checks    all checks of a full word
+//!   Code::check_verdict the verdict on a full word in which no shortened place is 1
 //!   Code::parity_with   the parity whose own checks are those given
 //!   Code::full_word the full word of a payload
-//!   Code::encode, check_word, check_line    the three calls
+//!   Code::encode, check_word, check_line    the three calls, with no lists
 //!   Answer          what a call answers; `number` is its number at the C boundary
 
 use crate::table::TABLE;
@@ -67,6 +72,14 @@ pub fn put(bytes: &mut [u8], place: usize, value: u8) {
     }
 }
 
+pub fn part(bytes: &[u8], from: usize, count: usize) -> Vec<u8> {
+    let mut part = vec![0; bytes_for(count)];
+    for place in (0..count).filter(|&place| bit(bytes, from + place) == 1) {
+        flip(&mut part, place);
+    }
+    part
+}
+
 pub fn bytes_for(bits: usize) -> usize {
     bits / 8 + usize::from(bits % 8 > 0)
 }
@@ -112,6 +125,63 @@ pub fn refusal_of_count(k: usize) -> Option<u64> {
 /// Whether a bit past the run of so many is 1.
 pub fn unused_set(bytes: &[u8], bits: usize) -> bool {
     (bits..bytes.len() * 8).any(|place| bit(bytes, place) == 1)
+}
+
+/// The number by which the encoder refuses, if it does.
+pub fn refusal_of_encode(k: usize, u: &[u8], delimiter: usize, room: usize) -> Option<u64> {
+    if let Some(n) = refusal_of_count(k) {
+        return Some(n);
+    }
+    if u.len() != bytes_for(k) {
+        return Some(2);
+    }
+    if unused_set(u, k) {
+        return Some(3);
+    }
+    if delimiter > DELIMITER_MOST {
+        return Some(4);
+    }
+    if room < bytes_for(line_bits(k)) {
+        return Some(5);
+    }
+    None
+}
+
+/// The same of the full-word check, and of complete but for refusal 8.
+pub fn refusal_of_word(k: usize, word: &[u8]) -> Option<u64> {
+    if let Some(n) = refusal_of_count(k) {
+        return Some(n);
+    }
+    if word.len() != WORD_BYTES {
+        return Some(2);
+    }
+    None
+}
+
+/// The same of the line check.
+pub fn refusal_of_line(k: usize, line: &[u8], delimiter: usize) -> Option<u64> {
+    if let Some(n) = refusal_of_count(k) {
+        return Some(n);
+    }
+    if line.len() != bytes_for(line_bits(k)) {
+        return Some(2);
+    }
+    if unused_set(line, line_bits(k)) {
+        return Some(3);
+    }
+    if delimiter > DELIMITER_MOST {
+        return Some(4);
+    }
+    None
+}
+
+/// The lowest bit of a line word's delimiter that differs from the one given, or accepted.
+pub fn delimiter_verdict(k: usize, line: &[u8], delimiter: usize) -> Answer {
+    let differs = |&place: &usize| usize::from(bit(line, k + SENT + place)) != delimiter >> place & 1;
+    match (0..DELIMITER_BITS).find(differs) {
+        Some(place) => Answer::Delimiter(place),
+        None => Answer::Fine,
+    }
 }
 
 /// A set of numbers below 3,072.
@@ -212,37 +282,8 @@ impl Code {
         word
     }
 
-    /// The encoder's answer, and the line word where it is written.
-    pub fn encode(&self, k: usize, u: &[u8], delimiter: usize, room: usize) -> (Answer, Vec<u8>) {
-        let refused = |n| (Answer::Refused(n), Vec::new());
-        if let Some(n) = refusal_of_count(k) {
-            return refused(n);
-        }
-        if u.len() != bytes_for(k) {
-            return refused(2);
-        }
-        if unused_set(u, k) {
-            return refused(3);
-        }
-        if delimiter > DELIMITER_MOST {
-            return refused(4);
-        }
-        if room < bytes_for(line_bits(k)) {
-            return refused(5);
-        }
-        (Answer::Fine, line_word(k, &self.full_word(k, u), delimiter))
-    }
-
-    pub fn check_word(&self, k: usize, word: &[u8]) -> Answer {
-        if let Some(n) = refusal_of_count(k) {
-            return Answer::Refused(n);
-        }
-        if word.len() != WORD_BYTES {
-            return Answer::Refused(2);
-        }
-        if let Some(place) = (k..PAYLOAD_PLACES).find(|&place| bit(word, place) == 1) {
-            return Answer::Shortened(place);
-        }
+    /// The lowest failing row and how many fail, or accepted.
+    pub fn check_verdict(&self, word: &[u8]) -> Answer {
         let failing: Vec<usize> = (0..CHECKS).filter(|&check| self.fails(word, check)).collect();
         match failing.first() {
             Some(&row) => Answer::Check(row, failing.len()),
@@ -250,28 +291,33 @@ impl Code {
         }
     }
 
-    pub fn check_line(&self, k: usize, line: &[u8], delimiter: usize) -> Answer {
-        if let Some(n) = refusal_of_count(k) {
+    /// The encoder's answer, and the line word where it is written.
+    pub fn encode(&self, k: usize, u: &[u8], delimiter: usize, room: usize) -> (Answer, Vec<u8>) {
+        if let Some(n) = refusal_of_encode(k, u, delimiter, room) {
+            return (Answer::Refused(n), Vec::new());
+        }
+        (Answer::Fine, line_word(k, &self.full_word(k, u), delimiter))
+    }
+
+    pub fn check_word(&self, k: usize, word: &[u8]) -> Answer {
+        if let Some(n) = refusal_of_word(k, word) {
             return Answer::Refused(n);
         }
-        if line.len() != bytes_for(line_bits(k)) {
-            return Answer::Refused(2);
+        match (k..PAYLOAD_PLACES).find(|&place| bit(word, place) == 1) {
+            Some(place) => Answer::Shortened(place),
+            None => self.check_verdict(word),
         }
-        if unused_set(line, line_bits(k)) {
-            return Answer::Refused(3);
-        }
-        if delimiter > DELIMITER_MOST {
-            return Answer::Refused(4);
+    }
+
+    pub fn check_line(&self, k: usize, line: &[u8], delimiter: usize) -> Answer {
+        if let Some(n) = refusal_of_line(k, line, delimiter) {
+            return Answer::Refused(n);
         }
         let word = self.full_word(k, line);
         let differs = |&place: &usize| bit(line, k + place) != bit(&word, PAYLOAD_PLACES + place);
-        if let Some(place) = (0..SENT).find(differs) {
-            return Answer::Parity(place);
-        }
-        let differs = |&place: &usize| usize::from(bit(line, k + SENT + place)) != delimiter >> place & 1;
-        match (0..DELIMITER_BITS).find(differs) {
-            Some(place) => Answer::Delimiter(place),
-            None => Answer::Fine,
+        match (0..SENT).find(differs) {
+            Some(place) => Answer::Parity(place),
+            None => delimiter_verdict(k, line, delimiter),
         }
     }
 }

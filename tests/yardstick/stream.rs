@@ -1,36 +1,41 @@
 //! Complete and the stream of paper 01, as amended by W4, in plain Rust, by the definitions: what the archive's three
 //! calls (paper.rs) leave out. It shares no code with the proved crates, and is unproved.
+//! There are no lists here, as in paper.rs; with any pair of them the same is in lists.rs.
 //!
 //!   complete        the parity of a full word, written in place
-//!   Columns         the checks that each payload place is in
+//!   fill_parity     the same of a word that is not refused
+//!   Columns         the checks that each place is in
 //!   Stream          the bits held, and the 384 bytes of running checks
+//!   Stream::refusal_of_piece, refusal_of_finish     what a piece and the finish refuse, but for their lists
 //!   Stream::piece   adds a piece, bit by bit
 //!   Stream::finish  the tail, where it is written; the stream is fresh again
+//!   Stream::take_parity     the parity whose own checks are those held; the stream is fresh again
 
 use crate::paper::*;
 
 const CHECK_BYTES: usize = CHECKS / 8;
 const PARITY_FROM: usize = PAYLOAD_PLACES / 8;
 
-/// Only bytes 1,824 to 2,207 are written.
 pub fn complete(code: &Code, k: usize, word: &mut [u8]) -> Answer {
-    if let Some(n) = refusal_of_count(k) {
+    if let Some(n) = refusal_of_word(k, word) {
         return Answer::Refused(n);
-    }
-    if word.len() != WORD_BYTES {
-        return Answer::Refused(2);
     }
     if (k..PAYLOAD_PLACES).any(|place| bit(word, place) == 1) {
         return Answer::Refused(8);
     }
-    word[PARITY_FROM..].fill(0);
-    let parity = code.parity_with(&code.checks(word));
-    word[PARITY_FROM..].copy_from_slice(&parity);
+    fill_parity(code, word);
     Answer::Fine
 }
 
+/// Only bytes 1,824 to 2,207 are written.
+pub fn fill_parity(code: &Code, word: &mut [u8]) {
+    word[PARITY_FROM..].fill(0);
+    let parity = code.parity_with(&code.checks(word));
+    word[PARITY_FROM..].copy_from_slice(&parity);
+}
+
 pub struct Columns {
-    checks_of: Vec<Vec<usize>>,
+    pub checks_of: Vec<Vec<usize>>,
 }
 
 impl Columns {
@@ -55,18 +60,25 @@ impl Stream {
         Stream { held: 0, checks: vec![0; CHECK_BYTES] }
     }
 
-    pub fn piece(&mut self, columns: &Columns, count: usize, bytes: &[u8]) -> Answer {
+    pub fn refusal_of_piece(&self, count: usize, bytes: &[u8]) -> Option<u64> {
         if self.held > PAYLOAD_MOST {
-            return Answer::Refused(7);
+            return Some(7);
         }
         if bytes.len() != bytes_for(count) {
-            return Answer::Refused(2);
+            return Some(2);
         }
         if unused_set(bytes, count) {
-            return Answer::Refused(3);
+            return Some(3);
         }
         if count > PAYLOAD_MOST - self.held {
-            return Answer::Refused(6);
+            return Some(6);
+        }
+        None
+    }
+
+    pub fn piece(&mut self, columns: &Columns, count: usize, bytes: &[u8]) -> Answer {
+        if let Some(n) = self.refusal_of_piece(count, bytes) {
+            return Answer::Refused(n);
         }
         for place in (0..count).filter(|&place| bit(bytes, place) == 1) {
             for &check in &columns.checks_of[self.held + place] {
@@ -77,24 +89,34 @@ impl Stream {
         Answer::Fine
     }
 
-    pub fn finish(&mut self, code: &Code, delimiter: usize, room: usize) -> (Answer, Vec<u8>) {
-        let refused = |n| (Answer::Refused(n), Vec::new());
+    pub fn refusal_of_finish(&self, delimiter: usize, room: usize) -> Option<u64> {
         if self.held > PAYLOAD_MOST {
-            return refused(7);
+            return Some(7);
         }
         if let Some(n) = refusal_of_count(self.held) {
-            return refused(n);
+            return Some(n);
         }
         if delimiter > DELIMITER_MOST {
-            return refused(4);
+            return Some(4);
         }
         if room < bytes_for(line_bits(0)) {
-            return refused(5);
+            return Some(5);
         }
-        let checks: Vec<bool> = (0..CHECKS).map(|check| bit(&self.checks, check) == 1).collect();
-        let mut word = vec![0; WORD_BYTES];
-        word[PARITY_FROM..].copy_from_slice(&code.parity_with(&checks));
-        *self = Stream::fresh();
+        None
+    }
+
+    pub fn finish(&mut self, code: &Code, delimiter: usize, room: usize) -> (Answer, Vec<u8>) {
+        if let Some(n) = self.refusal_of_finish(delimiter, room) {
+            return (Answer::Refused(n), Vec::new());
+        }
+        let mut word = vec![0; PARITY_FROM];
+        word.extend(self.take_parity(code));
         (Answer::Fine, line_word(0, &word, delimiter))
+    }
+
+    pub fn take_parity(&mut self, code: &Code) -> Vec<u8> {
+        let checks: Vec<bool> = (0..CHECKS).map(|check| bit(&self.checks, check) == 1).collect();
+        *self = Stream::fresh();
+        code.parity_with(&checks)
     }
 }

@@ -1,13 +1,18 @@
-//! Makes what tests/commands runs the program on, by paper 01 and W8 alone:
+//! Makes what tests/commands runs the program on, by papers 01 and 02 alone:
 //!   words FOLDER
-//! Writes payloads, full words, line words, tails and pieces into the folder, whole and damaged, the same for the coax
-//! codes, and a file `cases`, a case to a line, its parts apart by tabs:
+//! Writes lists, payloads, full words, line words, tails and pieces into the folder, whole and damaged, the same for
+//! the coax codes, and a file `cases`, a case to a line, its parts apart by tabs:
 //!   the arguments; the answer, its lines apart by `|`; where a file is written, its name and the one it must equal
-//! The names of files begin with the count of payload bits, those of a coax code with the code's.
+//! The names of files begin with the count of payload bits, those of a coax code with the code's. `.made` after the
+//! count says that a file was made with the lists of made.lists, in any order; the others are of the plain pair.
 
 #[allow(dead_code)]
 mod coax;
 mod coax_tables;
+#[allow(dead_code)]
+mod lists;
+#[allow(dead_code)]
+mod made_lists;
 #[allow(dead_code)]
 mod paper;
 #[allow(dead_code)]
@@ -17,6 +22,8 @@ mod stream;
 mod table;
 
 use coax::Coax;
+use lists::Lists;
+use made_lists::Pair;
 use paper::*;
 use random::Random;
 use std::fs;
@@ -25,6 +32,8 @@ use std::path::PathBuf;
 const SEED: u64 = 25;
 /// Whole data blocks: 1, 2, 3, 4, 5, 7, 8, 30, 55 and 56 of them.
 const COUNTS: [usize; 10] = [257, 514, 771, 1028, 1285, 1799, 2056, 7710, 14135, 14392];
+/// Those with made-up lists: 1, 7, 30 and 56.
+const MADE_COUNTS: [usize; 4] = [257, 1799, 7710, 14392];
 
 struct Maker {
     code: Code,
@@ -33,15 +42,12 @@ struct Maker {
     cases: String,
 }
 
-/// So many bits, from a place on.
-fn part(bytes: &[u8], from: usize, count: usize) -> Vec<u8> {
-    let mut part = vec![0; bytes_for(count)];
-    for place in 0..count {
-        if bit(bytes, from + place) == 1 {
-            flip(&mut part, place);
-        }
-    }
-    part
+/// A pair of lists: how it is named to the program, what the names of files made with it have after the count, and its
+/// bytes.
+struct Order {
+    argument: &'static str,
+    mark: &'static str,
+    lists: Lists,
 }
 
 fn told(answer: Answer) -> String {
@@ -64,16 +70,16 @@ impl Maker {
         self.cases.push_str(&format!("{}\t{}\t{}\t{}\n", arguments, answer, written, expected));
     }
 
-    fn check_word(&mut self, k: usize, name: &str, word: &[u8]) {
+    fn check_word(&mut self, order: &Order, k: usize, name: &str, word: &[u8]) {
         self.file(name, word);
-        let answer = told(self.code.check_word(k, word));
-        self.case(&format!("word {} {}", k, name), &answer, "", "");
+        let answer = told(lists::check_word(&self.code, &order.lists, k, word));
+        self.case(&format!("word {} {} {}", order.argument, k, name), &answer, "", "");
     }
 
-    fn check_line(&mut self, k: usize, delimiter: usize, name: &str, line: &[u8]) {
+    fn check_line(&mut self, order: &Order, k: usize, delimiter: usize, name: &str, line: &[u8]) {
         self.file(name, line);
-        let answer = told(self.code.check_line(k, line, delimiter));
-        self.case(&format!("line {} {} {}", k, delimiter, name), &answer, "", "");
+        let answer = told(lists::check_line(&self.code, &order.lists, k, line, delimiter));
+        self.case(&format!("line {} {} {} {}", order.argument, k, delimiter, name), &answer, "", "");
     }
 
     /// The payload, cut into pieces of random sizes, one of them of 0 bits: the arguments, and what is said of them.
@@ -92,45 +98,52 @@ impl Maker {
         (arguments, answer)
     }
 
-    fn stream(&mut self, k: usize, delimiter: usize, payload: &[u8]) {
-        let (pieces, answer) = self.pieces(k, payload, &k.to_string());
-        let arguments = format!("stream {} {}.out{}", delimiter, k, pieces);
-        self.case(&arguments, &(answer + "written 322"), &format!("{}.out", k), &format!("{}.tail", k));
+    fn stream(&mut self, order: &Order, k: usize, delimiter: usize, payload: &[u8]) {
+        let name = format!("{}{}", k, order.mark);
+        let (pieces, answer) = self.pieces(k, payload, &name);
+        let arguments = format!("stream {} {} {}.out{}", order.argument, delimiter, name, pieces);
+        self.case(&arguments, &(answer + "written 322"), &format!("{}.out", name), &format!("{}.tail", name));
     }
 
-    fn all_of(&mut self, k: usize) {
+    fn all_of(&mut self, order: &Order, k: usize) {
+        let (lists, name) = (order.argument, format!("{}{}", k, order.mark));
+        let orders = order.lists.read().expect("both are reorderings");
         let delimiter = self.random.below(DELIMITER_MOST + 1);
         let bytes = self.random.bytes(bytes_for(k));
         let payload = part(&bytes, 0, k);
-        let word = self.code.full_word(k, &payload);
-        let line = line_word(k, &word, delimiter);
-        self.file(&format!("{}.payload", k), &payload);
-        self.file(&format!("{}.tail", k), &line_word(0, &word, delimiter));
-        self.check_word(k, &format!("{}.word", k), &word);
-        self.check_line(k, delimiter, &format!("{}.line", k), &line);
+        let word = self.code.full_word(PAYLOAD_PLACES, &lists::inner_payload(&orders, &lists::padded(k, &payload)));
+        let outer = lists::outer_word(&self.code, &orders, k, &payload);
+        let line = line_word(k, &outer, delimiter);
+        self.file(&format!("{}.payload", name), &payload);
+        self.file(&format!("{}.tail", name), &line_word(0, &outer, delimiter));
+        self.check_word(order, k, &format!("{}.word", name), &word);
+        self.check_line(order, k, delimiter, &format!("{}.line", name), &line);
 
-        let (out, same) = (format!("{}.out", k), format!("{}.line", k));
+        let (out, same) = (format!("{}.out", name), format!("{}.line", name));
         let written = format!("written {}", line.len());
-        self.case(&format!("encode {} {} {}.payload {}", k, delimiter, k, out), &written, &out, &same);
+        let arguments = format!("encode {} {} {} {}.payload {}", lists, k, delimiter, name, out);
+        self.case(&arguments, &written, &out, &same);
 
         let mut open = word.clone();
         open[PAYLOAD_PLACES / 8..].copy_from_slice(&self.random.bytes(CHECKS / 8));
-        self.file(&format!("{}.open", k), &open);
-        let same = format!("{}.word", k);
-        self.case(&format!("complete {} {}.open {}", k, k, out), "written 2208", &out, &same);
+        self.file(&format!("{}.open", name), &open);
+        let same = format!("{}.word", name);
+        self.case(&format!("complete {} {} {}.open {}", lists, k, name, out), "written 2208", &out, &same);
 
-        self.stream(k, delimiter, &payload);
+        self.stream(order, k, delimiter, &payload);
 
+        // the inner places that take a payload bit, and those that are shortened
+        let (carrying, shortened): (Vec<usize>, Vec<usize>) = (0..PAYLOAD_PLACES).partition(|&t| orders.first[t] < k);
         let places = [
-            (self.random.below(k), "payload"),
-            (k + self.random.below(PAYLOAD_PLACES - k), "shortened"),
-            (PAYLOAD_PLACES + self.random.below(SENT), "sent"),
-            (PLACES - 1 - self.random.below(PLACES - PAYLOAD_PLACES - SENT), "punctured"),
+            (carrying[self.random.below(carrying.len())], "payload"),
+            (shortened[self.random.below(shortened.len())], "shortened"),
+            (PAYLOAD_PLACES + orders.second[self.random.below(SENT)], "sent"),
+            (PAYLOAD_PLACES + orders.second[SENT + self.random.below(CHECKS - SENT)], "punctured"),
         ];
         for (place, kind) in places {
             let mut damaged = word.clone();
             flip(&mut damaged, place);
-            self.check_word(k, &format!("{}.word.{}", k, kind), &damaged);
+            self.check_word(order, k, &format!("{}.word.{}", name, kind), &damaged);
         }
         let places = [
             (self.random.below(k), "payload"),
@@ -140,7 +153,7 @@ impl Maker {
         for (place, kind) in places {
             let mut damaged = line.clone();
             flip(&mut damaged, place);
-            self.check_line(k, delimiter, &format!("{}.line.{}", k, kind), &damaged);
+            self.check_line(order, k, delimiter, &format!("{}.line.{}", name, kind), &damaged);
         }
     }
 
@@ -191,8 +204,15 @@ impl Maker {
 fn main() {
     let folder = PathBuf::from(std::env::args().nth(1).expect("a folder"));
     let mut maker = Maker { code: Code::new(), random: Random(SEED), folder, cases: String::new() };
+    let plain = Order { argument: "plain", mark: "", lists: Pair::plain().lists };
     for k in COUNTS {
-        maker.all_of(k);
+        maker.all_of(&plain, k);
+    }
+    let lists = Pair::made(&mut maker.random, "shuffled").lists;
+    maker.file("made.lists", &[&lists.first[..], &lists.second[..]].concat());
+    let made = Order { argument: "made.lists", mark: ".made", lists };
+    for k in MADE_COUNTS {
+        maker.all_of(&made, k);
     }
     for code in [Coax::code_16200(), Coax::code_5940()] {
         maker.all_of_coax(&code);
