@@ -4,7 +4,7 @@ use Prim.Native.Nat.{_-_, _^_}
 use Rattle.rules.specs.declared.Cause.the-variants.{Check}
 use Rattle.rules.specs.declared.Verdict.the-variants.{Accepted, Rejected}
 use Rattle.rules.specs.declared.Judgement.the-variants as judgement
-use Rattle.answers.specs.declared.Said.the-variants.{Judged, Written, Held, PieceRefused}
+use Rattle.answers.specs.declared.Said.the-variants.{Judged, Written, Reordering, Held, PieceRefused}
 use Rattle.answers.specs.declared.Said.the-variants.{PiecesRefused, Wrong}
 use Rattle.lines.specs.Texts.{text, digitsOf, shown}
 use Rattle.answers.specs.Answers.{lineOf}
@@ -19,6 +19,9 @@ check = refl
 written : lineOf (Written 2208) ≡ text "written 2208\n"
 unfolding digitsOf
 written = refl
+
+reordering : lineOf Reordering ≡ text "reordering\n"
+reordering = refl
 
 held : lineOf (Held 2 257) ≡ text "piece 2 held 257\n"
 unfolding digitsOf

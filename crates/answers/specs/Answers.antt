@@ -19,7 +19,7 @@ use Rattle.rules.specs.declared.Verdict.the-variants.{Accepted, Rejected}
 use Rattle.rules.specs.declared.Judgement.{Judgement}
 use Rattle.rules.specs.declared.Judgement.the-variants as judgement
 use Rattle.answers.specs.declared.Said.{Said}
-use Rattle.answers.specs.declared.Said.the-variants.{Judged, Written, Refused, Held, PieceRefused}
+use Rattle.answers.specs.declared.Said.the-variants.{Judged, Written, Refused, Reordering, Held, PieceRefused}
 use Rattle.answers.specs.declared.Said.the-variants.{PiecesRefused, RightVector, WrongVector, WrongLine}
 use Rattle.answers.specs.declared.Said.the-variants.{NoVectors, Right, Wrong}
 use Rattle.lines.specs.Texts.{text, newLine, fact, facts, tally}
@@ -36,6 +36,7 @@ abbrev pub lineOf : Said → List ℕ
 lineOf (Judged told) = judgementLine told
 lineOf (Written bytes) = fact (text "written ") bytes
 lineOf (Refused number) = fact (text "refusal ") number
+lineOf Reordering = text "reordering" ++ newLine
 lineOf (Held piece bits) = facts (text "piece ") piece (text " held ") bits
 lineOf (PieceRefused piece number) = facts (text "piece ") piece (text " refusal ") number
 lineOf (PiecesRefused count) = fact (text "refused pieces ") count
@@ -55,6 +56,7 @@ abbrev pub statusOf : Said → ℕ
 statusOf (Judged told) = judgementStatus told
 statusOf (Written bytes) = 0
 statusOf (Refused number) = 2
+statusOf Reordering = 0
 statusOf (Held piece bits) = 0
 statusOf (PieceRefused piece number) = 2
 statusOf (PiecesRefused count) = 2

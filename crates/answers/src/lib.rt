@@ -11,12 +11,14 @@ use rules::Cause;
 use rules::Judgement;
 use rules::Verdict;
 
-// What a check answers; a file was written; an operation was refused; what a stream holds after a piece, or why the
-// piece was refused; how many were refused; what became of a vector; a line of vectors that is not as expected; totals.
+// What a check answers; a file was written; an operation was refused; both lists of a pair reorder their places; what
+// a stream holds after a piece, or why the piece was refused; how many were refused; what became of a vector; a line of
+// vectors that is not as expected; totals.
 pub enum Said {
     Judged(Judgement),
     Written(usize),
     Refused(usize),
+    Reordering,
     Held { piece: usize, bits: usize },
     PieceRefused { piece: usize, number: usize },
     PiecesRefused(usize),
@@ -71,6 +73,7 @@ pub fn line(said: Said, line: &mut [u8; 64]) -> usize
         Said::Judged(told) => judgement(told, line),
         Said::Written(bytes) => lines::one(b"written ", bytes, line),
         Said::Refused(number) => lines::one(b"refusal ", number, line),
+        Said::Reordering => lines::plain(b"reordering", b"", line),
         Said::Held { piece, bits } => lines::two(b"piece ", piece, b" held ", bits, line),
         Said::PieceRefused { piece, number } => lines::two(
             b"piece ",
@@ -109,6 +112,7 @@ pub fn status(said: Said) -> u8
         Said::Judged(told) => judgement_status(told),
         Said::Written(_) => 0,
         Said::Refused(_) => 2,
+        Said::Reordering => 0,
         Said::Held { piece, bits } => 0,
         Said::PieceRefused { piece, number } => 2,
         Said::PiecesRefused(_) => 2,

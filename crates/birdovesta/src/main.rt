@@ -1,6 +1,6 @@
 // The program: each command hands files of bytes to the proved libraries and says what they answer.
-use codes::Code;
 use codes::Named;
+use commands::pairs;
 use console::say;
 use console::say::TROUBLE;
 use lessons::sheet;
@@ -34,10 +34,10 @@ fn run_coax(code: CoaxCode, command: &[u8]) -> u8 {
         return commands::encode_coax(code);
     }
     if check::same(command, b"complete") {
-        return commands::complete(Code::Coax(code), 4);
+        return commands::complete_coax(code);
     }
     if check::same(command, b"word") {
-        return commands::check_word(Code::Coax(code), 4);
+        return commands::check_coax(code);
     }
     if check::same(command, b"stream") {
         return pieces::feed_coax(code);
@@ -68,16 +68,19 @@ fn run(command: &[u8]) -> u8 {
         return commands::encode();
     }
     if check::same(command, b"complete") {
-        return commands::complete(Code::Fibre, 2);
+        return commands::complete();
     }
     if check::same(command, b"word") {
-        return commands::check_word(Code::Fibre, 2);
+        return commands::check_word();
     }
     if check::same(command, b"line") {
         return commands::check_line();
     }
     if check::same(command, b"stream") {
         return pieces::feed_fibre();
+    }
+    if check::same(command, b"lists") {
+        return pairs::run();
     }
     if check::same(command, b"coax") {
         return coax();

@@ -31,9 +31,9 @@ fn is_place(code: CoaxCode, place: usize, rows: &[usize]) -> bool {
     }
     let bits = rules::coax::payload_places(code);
     if place < bits {
-        return places::payload_place(Code::Coax(code), bits, place, rows);
+        return places::payload_place(Code::Coax(code), b"", bits, place, rows);
     }
-    places::parity_place(Code::Coax(code), bits, place - bits, rows)
+    places::parity_place(Code::Coax(code), b"", bits, place - bits, rows)
 }
 
 // The word of a payload that is all 0 is all 0, and the bytes after it stay.

@@ -3,16 +3,26 @@
 --
 --   nameOf k           how CODE names the coax code k: by the bits of its words
 --   NamedBy s n        what the name s names: the code of that name, or nothing where no code has it
---   EncodedBy c ..     encode; a coax word has no delimiter
---   CompletedBy c ..   complete
---   TakenBy c ..       a piece of a stream
---   FinishedBy c ..    a stream's finish
+--   firstIn v          the first list of a pair v, which is both lists joined: its first 29,184 bytes
+--   secondIn v         the second list: the rest, 6,144 bytes where the pair is as long as it has to be
+--   fibreIn v          the fibre code by a pair. The coax codes have no lists, and do not read v
+--   PlainPair v        a pair of which both lists change nothing
+--   EncodedBy c v ..   encode; a coax word has no delimiter
+--   CompletedBy c v .. complete
+--   TakenBy c v ..     a piece of a stream
+--   FinishedBy c v ..  a stream's finish
+--   CutAt v n          a pair is cut at n: before it is the first list, and from it on the second
+--   PairSaid v s       what is answered of a pair: that both lists are reorderings of their places, or refusal 16
 --
 -- Nothing here is proved.
 use mathlib.Core.Path.{_≡_}
+use mathlib.Core.Logic.{_⊎_}
 use mathlib.Core.List.{List}
 use Prim.Native.Nat.{ℕ}
-use Rattle.rules.specs.Formats.{fibreFormat}
+use lib.ListN.{take, drop}
+use Rattle.rules.specs.Lists.{Listed, Plain}
+use Rattle.rules.specs.Formats.{Format, fibreFormat}
+use Rattle.rules.specs.Refusals.{BadList}
 use Rattle.rules.specs.Promises.{Completed, Encoded, PieceTaken, Finished}
 use Rattle.rules.specs.Coax.{coaxFormat, CoaxEncoded, CoaxCompleted, CoaxFinished}
 use Rattle.rules.specs.declared.Answer.{Answer}
@@ -21,6 +31,8 @@ use Rattle.rules.specs.declared.Outcome.{Outcome}
 use Rattle.rules.specs.declared.CoaxCode.{CoaxCode}
 use Rattle.rules.specs.declared.CoaxCode.the-variants.{Long, Short}
 use Rattle.lines.specs.Texts.{text}
+use Rattle.answers.specs.declared.Said.{Said}
+use Rattle.answers.specs.declared.Said.the-variants.{Refused, Reordering}
 use Rattle.codes.specs.declared.Named.{Named}
 use Rattle.codes.specs.declared.Named.the-variants.{Is, Nothing}
 use Rattle.codes.specs.declared.Code.{Code}
@@ -34,18 +46,40 @@ abbrev pub NamedBy : List ℕ → Named → Type 0
 NamedBy s (Is k) = s ≡ nameOf k
 NamedBy s Nothing = (k : CoaxCode) → s ≡ nameOf k → ⊥
 
-abbrev pub EncodedBy : Code → ℕ → List ℕ → ℕ → List ℕ → Answer → List ℕ → Type 0
-EncodedBy Fibre K u d o a o′ = Encoded fibreFormat K u d o a o′
-EncodedBy (Coax k) K u d o a o′ = CoaxEncoded k K u o a o′
+abbrev pub firstIn : List ℕ → List ℕ
+firstIn v = take 29184 v
 
-abbrev pub CompletedBy : Code → ℕ → List ℕ → Answer → List ℕ → Type 0
-CompletedBy Fibre K w a w′ = Completed fibreFormat K w a w′
-CompletedBy (Coax k) K w a w′ = CoaxCompleted k K w a w′
+abbrev pub secondIn : List ℕ → List ℕ
+secondIn v = drop 29184 v
 
-abbrev pub TakenBy : Code → ℕ → List ℕ → Stream → Outcome → Type 0
-TakenBy Fibre b s t r = PieceTaken fibreFormat b s t r
-TakenBy (Coax k) b s t r = PieceTaken (coaxFormat k) b s t r
+abbrev pub fibreIn : List ℕ → Format
+fibreIn v = fibreFormat (firstIn v) (secondIn v)
 
-abbrev pub FinishedBy : Code → ℕ → Stream → List ℕ → Outcome → List ℕ → Type 0
-FinishedBy Fibre d t o r o′ = Finished fibreFormat d t o r o′
-FinishedBy (Coax k) d t o r o′ = CoaxFinished k t o r o′
+pub record PlainPair (v : List ℕ) : Type 0 where
+  pub first : Plain 14592 (firstIn v)
+  pub second : Plain 3072 (secondIn v)
+
+abbrev pub EncodedBy : Code → List ℕ → ℕ → List ℕ → ℕ → List ℕ → Answer → List ℕ → Type 0
+EncodedBy Fibre v K u d o a o′ = Encoded (fibreIn v) K u d o a o′
+EncodedBy (Coax k) v K u d o a o′ = CoaxEncoded k K u o a o′
+
+abbrev pub CompletedBy : Code → List ℕ → ℕ → List ℕ → Answer → List ℕ → Type 0
+CompletedBy Fibre v K w a w′ = Completed (fibreIn v) K w a w′
+CompletedBy (Coax k) v K w a w′ = CoaxCompleted k K w a w′
+
+abbrev pub TakenBy : Code → List ℕ → ℕ → List ℕ → Stream → Outcome → Type 0
+TakenBy Fibre v b s t r = PieceTaken (fibreIn v) b s t r
+TakenBy (Coax k) v b s t r = PieceTaken (coaxFormat k) b s t r
+
+abbrev pub FinishedBy : Code → List ℕ → ℕ → Stream → List ℕ → Outcome → List ℕ → Type 0
+FinishedBy Fibre v d t o r o′ = Finished (fibreIn v) d t o r o′
+FinishedBy (Coax k) v d t o r o′ = CoaxFinished k t o r o′
+
+pub record CutAt (v : List ℕ) (n : ℕ) : Type 0 where
+  pub first : take n v ≡ firstIn v
+  pub second : drop n v ≡ secondIn v
+
+abbrev pub PairSaid : List ℕ → Said → Type 0
+PairSaid v s =
+    ((s ≡ Reordering) × Listed 14592 (firstIn v) × Listed 3072 (secondIn v))
+    ⊎ ((s ≡ Refused 16) × (BadList 14592 (firstIn v) ⊎ BadList 3072 (secondIn v)))

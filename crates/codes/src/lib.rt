@@ -1,11 +1,16 @@
 // The codes that the program serves: the fibre code and the two coax codes. How CODE names one, what BITS may be, and
-// each operation by its code, so that a command is written once for all of them.
+// each operation by its code, so that a command is written once for all of them. An operation is lent both lists of the
+// fibre code as one slice; a coax code does not read it.
+pub mod pair;
+
 ghost use Rattle.io.specs.Counts.{Counts};
-ghost use Rattle.codes.specs.Codes.{NamedBy, EncodedBy, CompletedBy, TakenBy, FinishedBy};
+ghost use Rattle.rules.specs.Promises.{WordChecked, LineChecked};
+ghost use Rattle.codes.specs.Codes.{NamedBy, fibreIn, EncodedBy, CompletedBy, TakenBy, FinishedBy};
 use console::numbers;
 use console::numbers::Number;
 use rules::Answer;
 use rules::CoaxCode;
+use rules::Judgement;
 use rules::Outcome;
 use rules::Stream;
 
@@ -68,11 +73,24 @@ pub fn bytes_of(bits: usize, buffer: &[u8]) -> usize
 }
 
 // Encodes a payload.
-pub fn encode(code: Code, bits: usize, payload: &[u8], delimiter: usize, word: &mut [u8]) -> Answer
-    ensures { λ r. ⌜ EncodedBy code bits (now (payload .entry)) delimiter (now (word .entry)) r (now (word .exit)) ⌝ }
+pub fn encode(
+    code: Code,
+    lists: &[u8],
+    bits: usize,
+    payload: &[u8],
+    delimiter: usize,
+    word: &mut [u8],
+) -> Answer
+    ensures { λ r. ⌜
+        EncodedBy code (now (lists .entry)) bits (now (payload .entry)) delimiter (now (word .entry)) r
+        (now (word .exit))
+        ⌝ }
 {
     match code {
-        Code::Fibre => line::encode(bits, payload, delimiter, word),
+        Code::Fibre => {
+            let at = pair::cut(lists);
+            line::encode(bits, payload, delimiter, &lists[..at], &lists[at..], word)
+        }
         Code::Coax(coax) => coax::encode(coax, bits, payload, word),
     }
 }
@@ -88,31 +106,64 @@ pub fn encoded(code: Code, bits: usize, buffer: &[u8]) -> usize
 }
 
 // Completes a word.
-pub fn complete(code: Code, bits: usize, word: &mut [u8]) -> Answer
-    ensures { λ r. ⌜ CompletedBy code bits (now (word .entry)) r (now (word .exit)) ⌝ }
+pub fn complete(code: Code, lists: &[u8], bits: usize, word: &mut [u8]) -> Answer
+    ensures { λ r. ⌜ CompletedBy code (now (lists .entry)) bits (now (word .entry)) r (now (word .exit)) ⌝ }
 {
     match code {
-        Code::Fibre => word::complete(bits, word),
+        Code::Fibre => {
+            let at = pair::cut(lists);
+            word::complete(bits, word, &lists[..at], &lists[at..])
+        }
         Code::Coax(coax) => coax::complete(coax, bits, word),
     }
 }
 
+// Checks a full word of the fibre code.
+pub fn check_word(lists: &[u8], bits: usize, word: &[u8]) -> Judgement
+    ensures { λ r. ⌜ WordChecked (fibreIn (now (lists .entry))) bits (now (word .entry)) r ⌝ }
+{
+    let at = pair::cut(lists);
+    word::check(bits, word, &lists[..at], &lists[at..])
+}
+
+// Checks a line word.
+pub fn check_line(lists: &[u8], bits: usize, line: &[u8], delimiter: usize) -> Judgement
+    ensures { λ r. ⌜ LineChecked (fibreIn (now (lists .entry))) bits (now (line .entry)) delimiter r ⌝ }
+{
+    let at = pair::cut(lists);
+    line::check(bits, line, delimiter, &lists[..at], &lists[at..])
+}
+
 // Takes a piece of a stream.
-pub fn piece(code: Code, stream: Stream, bits: usize, bytes: &[u8]) -> Outcome
-    ensures { λ r. ⌜ TakenBy code bits (now (bytes .entry)) stream r ⌝ }
+pub fn piece(code: Code, lists: &[u8], stream: Stream, bits: usize, bytes: &[u8]) -> Outcome
+    ensures { λ r. ⌜ TakenBy code (now (lists .entry)) bits (now (bytes .entry)) stream r ⌝ }
 {
     match code {
-        Code::Fibre => stream::piece(stream, bits, bytes),
+        Code::Fibre => {
+            let at = pair::cut(lists);
+            stream::piece(stream, bits, bytes, &lists[..at], &lists[at..])
+        }
         Code::Coax(coax) => coax::piece(coax, stream, bits, bytes),
     }
 }
 
 // Finishes a stream.
-pub fn finish(code: Code, stream: Stream, delimiter: usize, tail: &mut [u8]) -> Outcome
-    ensures { λ r. ⌜ FinishedBy code delimiter stream (now (tail .entry)) r (now (tail .exit)) ⌝ }
+pub fn finish(
+    code: Code,
+    lists: &[u8],
+    stream: Stream,
+    delimiter: usize,
+    tail: &mut [u8],
+) -> Outcome
+    ensures { λ r. ⌜
+        FinishedBy code (now (lists .entry)) delimiter stream (now (tail .entry)) r (now (tail .exit))
+        ⌝ }
 {
     match code {
-        Code::Fibre => stream::finish(stream, delimiter, tail),
+        Code::Fibre => {
+            let at = pair::cut(lists);
+            stream::finish(stream, delimiter, &lists[..at], &lists[at..], tail)
+        }
         Code::Coax(coax) => coax::finish(coax, stream, tail),
     }
 }

@@ -1,4 +1,5 @@
--- The program says `accepted`, and ends with exit status 0, exactly where a word is good.
+-- The program says `accepted`, and ends with exit status 0, exactly where a word is good, by the pair v of lists that
+-- it was lent.
 --
 --   word-said      of a full word: the line
 --   word-status    of a full word: the exit status
@@ -9,7 +10,6 @@
 use mathlib.Core.Path.{_≡_, refl, sym, ap, subst, _∙_}
 use mathlib.Core.List.{List}
 use Prim.Native.Nat.{ℕ}
-use Rattle.rules.specs.Formats.{fibreFormat}
 use Rattle.rules.specs.Promises.{WordChecked, LineChecked}
 use Rattle.rules.specs.Coax.{CoaxChecked}
 use Rattle.rules.specs.declared.CoaxCode.{CoaxCode}
@@ -27,6 +27,7 @@ use Rattle.lines.specs.Texts.{text}
 use Rattle.answers.specs.Answers.{lineOf, statusOf, Says}
 use Rattle.answers.specs.declared.Said.{Said}
 use Rattle.answers.specs.declared.Said.the-variants as said
+use Rattle.codes.specs.Codes.{firstIn, secondIn, fibreIn}
 use Rattle.answers.proofs.Same.{accepted-alone, accepted-status}
 
 -- Seen s: what is seen of an answer, which of judgements is seen of the accepted one alone
@@ -39,29 +40,30 @@ shown P Good Seen judged alone accepted s h = (
   λ good. subst Seen (sym (h .2 ∙ ap said.Judged (judged (h .0) (h .1) .1 good))) accepted,
 )
 
-pub word-said : (K : ℕ) (w : List ℕ) (s : Said) → Says (WordChecked fibreFormat K w) s
-    → Exactly (lineOf s ≡ text "accepted\n") (GoodWord fibreFormat K w)
-word-said K w =
-    shown (WordChecked fibreFormat K w) (GoodWord fibreFormat K w) (λ s. lineOf s ≡ text "accepted\n")
-    (word-accepted fibreFormat K w) accepted-alone refl
+module _ (v : List ℕ) (K : ℕ) where
+  pub word-said : (w : List ℕ) (s : Said) → Says (WordChecked (fibreIn v) K w) s
+      → Exactly (lineOf s ≡ text "accepted\n") (GoodWord (fibreIn v) K w)
+  word-said w =
+      shown (WordChecked (fibreIn v) K w) (GoodWord (fibreIn v) K w) (λ s. lineOf s ≡ text "accepted\n")
+      (word-accepted (fibreIn v) K w) accepted-alone refl
 
-pub word-status : (K : ℕ) (w : List ℕ) (s : Said) → Says (WordChecked fibreFormat K w) s
-    → Exactly (statusOf s ≡ 0) (GoodWord fibreFormat K w)
-word-status K w =
-    shown (WordChecked fibreFormat K w) (GoodWord fibreFormat K w) (λ s. statusOf s ≡ 0)
-    (word-accepted fibreFormat K w) accepted-status refl
+  pub word-status : (w : List ℕ) (s : Said) → Says (WordChecked (fibreIn v) K w) s
+      → Exactly (statusOf s ≡ 0) (GoodWord (fibreIn v) K w)
+  word-status w =
+      shown (WordChecked (fibreIn v) K w) (GoodWord (fibreIn v) K w) (λ s. statusOf s ≡ 0)
+      (word-accepted (fibreIn v) K w) accepted-status refl
 
-pub line-said : (K : ℕ) (l : List ℕ) (d : ℕ) (s : Said) → Says (LineChecked fibreFormat K l d) s
-    → Exactly (lineOf s ≡ text "accepted\n") (GoodLine fibreFormat K l d)
-line-said K l d =
-    shown (LineChecked fibreFormat K l d) (GoodLine fibreFormat K l d) (λ s. lineOf s ≡ text "accepted\n")
-    (line-accepted fibreFormat fibre-one fibre-sized K l d) accepted-alone refl
+  pub line-said : (l : List ℕ) (d : ℕ) (s : Said) → Says (LineChecked (fibreIn v) K l d) s
+      → Exactly (lineOf s ≡ text "accepted\n") (GoodLine (fibreIn v) K l d)
+  line-said l d =
+      shown (LineChecked (fibreIn v) K l d) (GoodLine (fibreIn v) K l d) (λ s. lineOf s ≡ text "accepted\n")
+      (line-accepted (fibreIn v) fibre-one (fibre-sized (firstIn v) (secondIn v)) K l d) accepted-alone refl
 
-pub line-status : (K : ℕ) (l : List ℕ) (d : ℕ) (s : Said) → Says (LineChecked fibreFormat K l d) s
-    → Exactly (statusOf s ≡ 0) (GoodLine fibreFormat K l d)
-line-status K l d =
-    shown (LineChecked fibreFormat K l d) (GoodLine fibreFormat K l d) (λ s. statusOf s ≡ 0)
-    (line-accepted fibreFormat fibre-one fibre-sized K l d) accepted-status refl
+  pub line-status : (l : List ℕ) (d : ℕ) (s : Said) → Says (LineChecked (fibreIn v) K l d) s
+      → Exactly (statusOf s ≡ 0) (GoodLine (fibreIn v) K l d)
+  line-status l d =
+      shown (LineChecked (fibreIn v) K l d) (GoodLine (fibreIn v) K l d) (λ s. statusOf s ≡ 0)
+      (line-accepted (fibreIn v) fibre-one (fibre-sized (firstIn v) (secondIn v)) K l d) accepted-status refl
 
 pub coax-said : (k : CoaxCode) (K : ℕ) (w : List ℕ) (s : Said) → Says (CoaxChecked k K w) s
     → Exactly (lineOf s ≡ text "accepted\n") (GoodCoax k K w)

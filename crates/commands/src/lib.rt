@@ -1,15 +1,18 @@
 // The commands over whole words: each reads its arguments and its files, calls one operation, says what it answers and
 // tells the exit status. What is wrong with an output is said before anything is computed.
 // A file is read into a buffer that is longer than any operation's bytes, so that the operation refuses what is too
-// long.
+// long. LISTS is read after the output is found, and before any other file.
+pub mod pairs;
+
 ghost use Prim.Native.Nat.{_+_, _^_, _≤_, _<_};
 ghost use lib.ListN.{length};
-ghost use Rattle.rules.specs.Formats.{fibreFormat};
 ghost use Rattle.rules.specs.Promises.{WordChecked, LineChecked};
 ghost use Rattle.rules.specs.Coax.{CoaxChecked};
 ghost use Rattle.answers.specs.Answers.{Says};
+ghost use Rattle.codes.specs.Codes.{fibreIn};
 use answers::Said;
 use codes::Code;
+use codes::pair;
 use console::files;
 use console::numbers;
 use console::numbers::Number;
@@ -22,6 +25,7 @@ use rules::CoaxCode;
 // Encodes the payload that was read into OUT.
 fn encode_into(
     code: Code,
+    lists: &[u8],
     known: Known,
     path: &[u8],
     bits: usize,
@@ -31,7 +35,7 @@ fn encode_into(
     requires { ⌜ length (now path) ≤ 4091 ⌝ }
 {
     let mut word = [0u8; rules::fibre::LINE_BYTES];
-    let answer = codes::encode(code, bits, payload, delimiter, &mut word);
+    let answer = codes::encode(code, lists, bits, payload, delimiter, &mut word);
     match answer {
         Answer::Done => {
             let n = codes::encoded(code, bits, &word);
@@ -51,14 +55,21 @@ fn encode_file(code: Code, bits: usize, delimiter: usize, i: usize) -> u8
     if to == 0 {
         return TROUBLE;
     }
+    let mut lists = io::large_buffer();
+    let lent = pair::read(code, &mut lists);
+    if !lent.fine {
+        return TROUBLE;
+    }
     let mut payload = io::buffer();
     let got = files::read(i, &mut payload);
     if !got.fine {
         return TROUBLE;
     }
+    let n = lent.size;
     let size = got.size;
     encode_into(
         code,
+        &lists[..n],
         output.known,
         &path[..to],
         bits,
@@ -67,18 +78,18 @@ fn encode_file(code: Code, bits: usize, delimiter: usize, i: usize) -> u8
     )
 }
 
-// encode BITS DELIMITER PAYLOAD OUT
+// encode LISTS BITS DELIMITER PAYLOAD OUT
 pub fn encode() -> u8 {
-    if os::arg_count() != 6 {
-        return say::fault(b"encode needs BITS DELIMITER PAYLOAD OUT");
+    if os::arg_count() != 7 {
+        return say::fault(b"encode needs\nLISTS BITS DELIMITER PAYLOAD OUT");
     }
-    let Number::Is(bits) = codes::payload_bits(Code::Fibre, 2) else {
+    let Number::Is(bits) = codes::payload_bits(Code::Fibre, 3) else {
         return TROUBLE;
     };
-    let Number::Is(delimiter) = numbers::argument(3, b"DELIMITER", b"0 to 1023") else {
+    let Number::Is(delimiter) = numbers::argument(4, b"DELIMITER", b"0 to 1023") else {
         return TROUBLE;
     };
-    encode_file(Code::Fibre, bits, delimiter, 4)
+    encode_file(Code::Fibre, bits, delimiter, 5)
 }
 
 // coax CODE encode BITS PAYLOAD OUT
@@ -94,22 +105,26 @@ pub fn encode_coax(coax: CoaxCode) -> u8 {
 }
 
 // Completes the word that was read into OUT.
-fn complete_into(code: Code, known: Known, path: &[u8], bits: usize, word: &mut [u8]) -> u8
+fn complete_into(
+    code: Code,
+    lists: &[u8],
+    known: Known,
+    path: &[u8],
+    bits: usize,
+    word: &mut [u8],
+) -> u8
     requires { ⌜ length (now path) ≤ 4091 ⌝ }
 {
-    match codes::complete(code, bits, word) {
+    match codes::complete(code, lists, bits, word) {
         Answer::Done => outputs::write(known, path, word),
         Answer::Refused(number) => say::answer(Said::Refused(number)),
     }
 }
 
-// complete BITS WORD OUT, of which BITS is argument i
-pub fn complete(code: Code, i: usize) -> u8
-    requires { ⌜ i + 3 < 2 ^ 64 ⌝ }
+// Completes WORD, argument i + 1, into OUT, the next. BITS is argument i.
+fn complete_file(code: Code, i: usize) -> u8
+    requires { ⌜ i + 2 < 2 ^ 64 ⌝ }
 {
-    if os::arg_count() != i + 3 {
-        return say::fault(b"complete needs BITS WORD OUT");
-    }
     let Number::Is(bits) = codes::payload_bits(code, i) else {
         return TROUBLE;
     };
@@ -119,20 +134,49 @@ pub fn complete(code: Code, i: usize) -> u8
     if to == 0 {
         return TROUBLE;
     }
+    let mut lists = io::large_buffer();
+    let lent = pair::read(code, &mut lists);
+    if !lent.fine {
+        return TROUBLE;
+    }
     let mut word = io::buffer();
     let got = files::read(i + 1, &mut word);
     if !got.fine {
         return TROUBLE;
     }
+    let n = lent.size;
     let size = got.size;
-    complete_into(code, output.known, &path[..to], bits, &mut word[..size])
+    complete_into(
+        code,
+        &lists[..n],
+        output.known,
+        &path[..to],
+        bits,
+        &mut word[..size],
+    )
+}
+
+// complete LISTS BITS WORD OUT
+pub fn complete() -> u8 {
+    if os::arg_count() != 6 {
+        return say::fault(b"complete needs LISTS BITS WORD OUT");
+    }
+    complete_file(Code::Fibre, 3)
+}
+
+// coax CODE complete BITS WORD OUT
+pub fn complete_coax(coax: CoaxCode) -> u8 {
+    if os::arg_count() != 7 {
+        return say::fault(b"complete needs BITS WORD OUT");
+    }
+    complete_file(Code::Coax(coax), 4)
 }
 
 // What is said of a full word.
-pub fn word_answer(bits: usize, word: &[u8]) -> Said
-    ensures { λ r. ⌜ Says (WordChecked fibreFormat bits (now (word .entry))) r ⌝ }
+pub fn word_answer(lists: &[u8], bits: usize, word: &[u8]) -> Said
+    ensures { λ r. ⌜ Says (WordChecked (fibreIn (now (lists .entry))) bits (now (word .entry))) r ⌝ }
 {
-    Said::Judged(word::check(bits, word))
+    Said::Judged(codes::check_word(lists, bits, word))
 }
 
 // What is said of a coax word.
@@ -143,55 +187,80 @@ pub fn coax_answer(code: CoaxCode, bits: usize, word: &[u8]) -> Said
 }
 
 // Says the answer to a word by its code.
-fn say_answer(code: Code, bits: usize, word: &[u8]) -> u8 {
+fn say_answer(code: Code, lists: &[u8], bits: usize, word: &[u8]) -> u8 {
     match code {
-        Code::Fibre => say::answer(word_answer(bits, word)),
+        Code::Fibre => say::answer(word_answer(lists, bits, word)),
         Code::Coax(coax) => say::answer(coax_answer(coax, bits, word)),
     }
 }
 
-// word BITS WORD, of which BITS is argument i
-pub fn check_word(code: Code, i: usize) -> u8
-    requires { ⌜ i + 2 < 2 ^ 64 ⌝ }
+// Checks WORD, argument i + 1. BITS is argument i.
+fn check_file(code: Code, i: usize) -> u8
+    requires { ⌜ i + 1 < 2 ^ 64 ⌝ }
 {
-    if os::arg_count() != i + 2 {
-        return say::fault(b"word needs BITS WORD");
-    }
     let Number::Is(bits) = codes::payload_bits(code, i) else {
         return TROUBLE;
     };
+    let mut lists = io::large_buffer();
+    let lent = pair::read(code, &mut lists);
+    if !lent.fine {
+        return TROUBLE;
+    }
     let mut word = io::buffer();
     let got = files::read(i + 1, &mut word);
     if !got.fine {
         return TROUBLE;
     }
+    let n = lent.size;
     let size = got.size;
-    say_answer(code, bits, &word[..size])
+    say_answer(code, &lists[..n], bits, &word[..size])
+}
+
+// word LISTS BITS WORD
+pub fn check_word() -> u8 {
+    if os::arg_count() != 5 {
+        return say::fault(b"word needs LISTS BITS WORD");
+    }
+    check_file(Code::Fibre, 3)
+}
+
+// coax CODE word BITS WORD
+pub fn check_coax(coax: CoaxCode) -> u8 {
+    if os::arg_count() != 6 {
+        return say::fault(b"word needs BITS WORD");
+    }
+    check_file(Code::Coax(coax), 4)
 }
 
 // What is said of a line word.
-pub fn line_answer(bits: usize, line: &[u8], delimiter: usize) -> Said
-    ensures { λ r. ⌜ Says (LineChecked fibreFormat bits (now (line .entry)) delimiter) r ⌝ }
+pub fn line_answer(lists: &[u8], bits: usize, line: &[u8], delimiter: usize) -> Said
+    ensures { λ r. ⌜ Says (LineChecked (fibreIn (now (lists .entry))) bits (now (line .entry)) delimiter) r ⌝ }
 {
-    Said::Judged(line::check(bits, line, delimiter))
+    Said::Judged(codes::check_line(lists, bits, line, delimiter))
 }
 
-// line BITS DELIMITER LINE
+// line LISTS BITS DELIMITER LINE
 pub fn check_line() -> u8 {
-    if os::arg_count() != 5 {
-        return say::fault(b"line needs BITS DELIMITER LINE");
+    if os::arg_count() != 6 {
+        return say::fault(b"line needs LISTS BITS DELIMITER LINE");
     }
-    let Number::Is(bits) = codes::payload_bits(Code::Fibre, 2) else {
+    let Number::Is(bits) = codes::payload_bits(Code::Fibre, 3) else {
         return TROUBLE;
     };
-    let Number::Is(delimiter) = numbers::argument(3, b"DELIMITER", b"0 to 1023") else {
+    let Number::Is(delimiter) = numbers::argument(4, b"DELIMITER", b"0 to 1023") else {
         return TROUBLE;
     };
+    let mut lists = io::large_buffer();
+    let lent = pair::read(Code::Fibre, &mut lists);
+    if !lent.fine {
+        return TROUBLE;
+    }
     let mut line = io::buffer();
-    let got = files::read(4, &mut line);
+    let got = files::read(5, &mut line);
     if !got.fine {
         return TROUBLE;
     }
+    let n = lent.size;
     let size = got.size;
-    say::answer(line_answer(bits, &line[..size], delimiter))
+    say::answer(line_answer(&lists[..n], bits, &line[..size], delimiter))
 }

@@ -80,6 +80,15 @@ pub fn wrong(name: &[u8], words: &[u8], range: &[u8]) -> u8
     fault(range)
 }
 
+// What is told beside an answer, on standard error: words and a number.
+pub fn beside(words: &[u8], number: usize)
+    requires { ⌜ length (now words) ≤ 20 ⌝ }
+{
+    let mut line = [0u8; 64];
+    let n = lines::one(words, number, &mut line);
+    io::write_all(STDERR_FILENO, &line[..n]);
+}
+
 // A byte of a name.
 fn byte(byte: u8) {
     let mut line = [0u8; 64];

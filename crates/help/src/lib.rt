@@ -5,17 +5,20 @@ use console::say;
 use console::say::TROUBLE;
 
 pub fn version() -> u8 {
-    say::text(b"birdovesta 2\n")
+    say::text(b"birdovesta 3\n")
 }
 
 fn all() -> u8 {
     say::text(
         b"lessons [VECTORS]\n\
-        encode BITS DELIMITER PAYLOAD OUT\n\
-        complete BITS WORD OUT\n\
-        word BITS WORD\n\
-        line BITS DELIMITER LINE\n\
-        stream DELIMITER OUT [BITS PIECE]...\n\
+        encode LISTS BITS DELIMITER PAYLOAD OUT\n\
+        complete LISTS BITS WORD OUT\n\
+        word LISTS BITS WORD\n\
+        line LISTS BITS DELIMITER LINE\n\
+        stream LISTS DELIMITER OUT\n\
+        [BITS PIECE]...\n\
+        lists OUT\n\
+        lists check FILE\n\
         coax CODE encode BITS PAYLOAD OUT\n\
         coax CODE complete BITS WORD OUT\n\
         coax CODE word BITS WORD\n\
@@ -23,8 +26,10 @@ fn all() -> u8 {
         help [COMMAND]\n\
         help refusal [NUMBER]\n\
         help ANSWER, such as help check\n\
+        LISTS: plain, or a file; help lists\n\
         OUT is written, or replaced whole.\n\
-        exit 0: written, held, accepted, right\n\
+        exit 0: written, held, accepted,\n\
+        right, reordering\n\
         exit 1: not accepted, or a wrong lesson\n\
         exit 2: refused\n\
         exit 3: wrong use, a file, not built\n",
@@ -44,56 +49,63 @@ fn lessons() -> u8 {
 
 fn encode() -> u8 {
     say::text(
-        b"encode BITS DELIMITER PAYLOAD OUT\n\
+        b"encode LISTS BITS DELIMITER PAYLOAD OUT\n\
+        LISTS: plain, or a file; help lists\n\
         BITS: 257 to 14392, a multiple of 257\n\
         DELIMITER: 0 to 1023\n\
         PAYLOAD: a file of BITS bits\n\
         OUT: the line word, BITS + 2570 bits,\n\
         written or replaced whole\n\
         answers: written BYTES\n\
-        refusals, in order: 1 10 2 3 4\n",
+        refusals, in order: 16 1 10 2 3 4\n",
     )
 }
 
 fn complete() -> u8 {
     say::text(
-        b"complete BITS WORD OUT\n\
+        b"complete LISTS BITS WORD OUT\n\
+        LISTS: plain, or a file; help lists\n\
         BITS: 257 to 14392, a multiple of 257\n\
         WORD: a full word, 2208 bytes,\n\
-        its parity may be anything\n\
+        in inner order; any parity\n\
         OUT: the word with its parity,\n\
         written or replaced whole\n\
         answers: written BYTES\n\
-        refusals, in order: 1 10 2 8\n",
+        refusals, in order: 16 1 10 2 8\n",
     )
 }
 
 fn word() -> u8 {
     say::text(
-        b"word BITS WORD\n\
+        b"word LISTS BITS WORD\n\
+        LISTS: plain, or a file; help lists\n\
         BITS: 257 to 14392, a multiple of 257\n\
-        WORD: a full word, 2208 bytes\n\
+        WORD: a full word, 2208 bytes,\n\
+        in inner order\n\
         Nothing is written.\n\
         answers: accepted, shortened, check\n\
-        refusals, in order: 1 10 2\n",
+        refusals, in order: 16 1 10 2\n",
     )
 }
 
 fn line() -> u8 {
     say::text(
-        b"line BITS DELIMITER LINE\n\
+        b"line LISTS BITS DELIMITER LINE\n\
+        LISTS: plain, or a file; help lists\n\
         BITS: 257 to 14392, a multiple of 257\n\
         DELIMITER: 0 to 1023\n\
         LINE: a line word, BITS + 2570 bits\n\
         Nothing is written.\n\
         answers: accepted, parity, delimiter\n\
-        refusals, in order: 1 10 2 3 4\n",
+        refusals, in order: 16 1 10 2 3 4\n",
     )
 }
 
 fn stream() -> u8 {
     say::text(
-        b"stream DELIMITER OUT [BITS PIECE]...\n\
+        b"stream LISTS DELIMITER OUT\n\
+        [BITS PIECE]...\n\
+        LISTS: plain, or a file; help lists\n\
         DELIMITER: 0 to 1023\n\
         OUT: the parity and the delimiter\n\
         that follow the payload, 322 bytes,\n\
@@ -102,9 +114,33 @@ fn stream() -> u8 {
         PIECE: a file of BITS bits\n\
         answers: piece NUMBER held BITS,\n\
         then written BYTES\n\
-        refusals of a piece, in order: 2 3 6\n\
+        refusals of a piece, in order: 16 2 3 6\n\
         A refused piece is left out.\n\
-        refusals at the end, in order: 1 10 4\n",
+        refusals at the end, in order: 16 1 10 4\n",
+    )
+}
+
+fn lists() -> u8 {
+    say::text(
+        b"lists OUT\n\
+        lists check FILE\n\
+        OUT: the pair that plain names,\n\
+        written or replaced whole\n\
+        FILE: a pair to test; what is at fault\n\
+        is said on standard error\n\
+        LISTS of the fibre commands: plain, or a\n\
+        file of two lists, joined: 35328 bytes\n\
+        An entry has two bytes, low byte first.\n\
+        first list: 14592 entries; entry t names\n\
+        the padded place that goes to inner t\n\
+        second list: 3072 entries; entry t names\n\
+        the inner parity that goes out as t\n\
+        plain changes nothing. It does not give\n\
+        the published words.\n\
+        A file named plain is typed ./plain and\n\
+        one named check ./check\n\
+        answers: written BYTES, reordering\n\
+        refusals: 16\n",
     )
 }
 
@@ -173,9 +209,14 @@ fn refusal(number: usize) -> u8 {
             coax: above 14400 or 5040\n\
             Begin a new stream.\n",
         ),
-        8 => say::text(b"refusal 8\na shortened place is 1\nSet places BITS to 14591 to 0.\n"),
+        8 => say::text(
+            b"refusal 8\na shortened place is 1\nSet it to 0. The command word names it.\n",
+        ),
         10 => say::text(
             b"refusal 10\nbits is not a multiple of 257\nGive whole data blocks of 257 bits.\n",
+        ),
+        16 => say::text(
+            b"refusal 16\na list is no reordering of its places\nName each place once; lists check FILE.\n",
         ),
         _ => TROUBLE,
     }
@@ -222,15 +263,15 @@ fn of_answer(word: &[u8]) -> u8 {
     if check::same(word, b"shortened") {
         return say::text(
             b"shortened PLACE\n\
-            PLACE is the lowest shortened place\n\
-            that is 1. Set it to 0.\n",
+            PLACE is the lowest inner place that\n\
+            is shortened and 1. Set it to 0.\n",
         );
     }
     if check::same(word, b"parity") {
         return say::text(
             b"parity PLACE\n\
             PLACE is the lowest sent parity bit\n\
-            that is wrong. Send the word anew.\n",
+            that is wrong. Right lists? Send anew.\n",
         );
     }
     if check::same(word, b"delimiter") {
@@ -246,6 +287,13 @@ fn of_answer(word: &[u8]) -> u8 {
 fn of_progress(word: &[u8]) -> u8 {
     if check::same(word, b"written") {
         return say::text(b"written BYTES\nOUT has so many bytes.\nNothing need be done.\n");
+    }
+    if check::same(word, b"reordering") {
+        return say::text(
+            b"reordering\n\
+            Both lists name each place once.\n\
+            Nothing need be done.\n",
+        );
     }
     if check::same(word, b"piece") || check::same(word, b"held") {
         return say::text(
@@ -290,6 +338,9 @@ fn of_word(name: &[u8]) -> u8 {
     }
     if check::same(name, b"stream") {
         return stream();
+    }
+    if check::same(name, b"lists") {
+        return lists();
     }
     if check::same(name, b"coax") {
         return coax();

@@ -1,4 +1,6 @@
 // Whether a place is in the checks expected, and in no other, of any code: by a piece, or by the finish of a stream.
+// The places are inner ones. By the pair that changes nothing, which the fibre code is lent here, they are outer ones
+// too.
 use crate::expected::is_done;
 use crate::expected::set;
 use crate::expected::set_all;
@@ -7,11 +9,11 @@ use rules::Stream;
 use rules::fibre;
 
 // A payload place is in these checks: they are the running checks of a payload of so many bits with that bit alone.
-pub fn payload_place(code: Code, bits: usize, place: usize, rows: &[usize]) -> bool {
+pub fn payload_place(code: Code, lists: &[u8], bits: usize, place: usize, rows: &[usize]) -> bool {
     let mut payload = [0u8; fibre::PAYLOAD_BYTES];
     set(&mut payload, place);
     let n = codes::bytes_of(bits, &payload);
-    let outcome = codes::piece(code, stream::begin(), bits, &payload[..n]);
+    let outcome = codes::piece(code, lists, stream::begin(), bits, &payload[..n]);
     let answer = outcome.answer;
     if !is_done(answer) {
         return false;
@@ -25,7 +27,7 @@ pub fn payload_place(code: Code, bits: usize, place: usize, rows: &[usize]) -> b
 
 // A sent parity place is in these checks: of running checks with these rows alone, it is the sent parity. A stream that
 // holds so many bits can be finished.
-pub fn parity_place(code: Code, bits: usize, place: usize, rows: &[usize]) -> bool {
+pub fn parity_place(code: Code, lists: &[u8], bits: usize, place: usize, rows: &[usize]) -> bool {
     let mut checks = [0u8; rules::STREAM_BYTES];
     set_all(&mut checks, rows);
     let held = Stream {
@@ -33,7 +35,7 @@ pub fn parity_place(code: Code, bits: usize, place: usize, rows: &[usize]) -> bo
         checks: checks,
     };
     let mut tail = [255u8; fibre::TAIL_BYTES];
-    let outcome = codes::finish(code, held, 0, &mut tail);
+    let outcome = codes::finish(code, lists, held, 0, &mut tail);
     let answer = outcome.answer;
     if !is_done(answer) {
         return false;

@@ -1,9 +1,11 @@
 // The commands over a payload in pieces: a stream is fed them one by one, and finished. Each answer names its piece; a
-// refused one is left out, and the last line counts those. The fibre code and the coax codes go the same way.
+// refused one is left out, and the last line counts those. The fibre code and the coax codes go the same way, but for
+// LISTS, which is read once, before any piece.
 ghost use Prim.Native.Nat.{_+_, _*_, _^_, _≤_, _<_};
 ghost use lib.ListN.{length};
 use answers::Said;
 use codes::Code;
+use codes::pair;
 use console::files;
 use console::numbers;
 use console::numbers::Number;
@@ -78,24 +80,38 @@ fn held(feeding: Feeding, piece: usize, stream: Stream) -> Feeding {
     }
 }
 
-// Feeds the bytes of a piece to the stream, and says what it answers.
-fn fed(code: Code, feeding: Feeding, piece: usize, bits: usize, bytes: &[u8]) -> Feeding {
-    // A file that fills the buffer may go on: it is too long.
-    if bytes.len() == 65536 {
-        return refused(feeding, piece, 2);
+// The number of a refused piece. A file that fills the buffer may go on: it is too long, whatever the operation says of
+// its first bytes; only the refusal of the lists comes before that.
+fn number_of(size: usize, told: usize) -> usize {
+    if size == 65536 {
+        if told != 16 {
+            return 2;
+        }
     }
+    told
+}
+
+// Feeds the bytes of a piece to the stream, and says what it answers. No piece that fills the buffer is accepted.
+fn fed(
+    code: Code,
+    lists: &[u8],
+    feeding: Feeding,
+    piece: usize,
+    bits: usize,
+    bytes: &[u8],
+) -> Feeding {
     let stream = feeding.stream;
-    let outcome = codes::piece(code, stream, bits, bytes);
+    let outcome = codes::piece(code, lists, stream, bits, bytes);
     let answer = outcome.answer;
     let later = outcome.stream;
     match answer {
         Answer::Done => held(feeding, piece, later),
-        Answer::Refused(number) => refused(feeding, piece, number),
+        Answer::Refused(told) => refused(feeding, piece, number_of(bytes.len(), told)),
     }
 }
 
 // Feeds a piece, whose BITS is argument i.
-fn feed(code: Code, feeding: Feeding, piece: usize, i: usize) -> Feeding
+fn feed(code: Code, lists: &[u8], feeding: Feeding, piece: usize, i: usize) -> Feeding
     requires { ⌜ i + 1 < 2 ^ 64 ⌝ }
 {
     let Number::Is(bits) = codes::piece_bits(code, i) else {
@@ -107,11 +123,11 @@ fn feed(code: Code, feeding: Feeding, piece: usize, i: usize) -> Feeding
         return stopped(feeding);
     }
     let size = got.size;
-    fed(code, feeding, piece, bits, &bytes[..size])
+    fed(code, lists, feeding, piece, bits, &bytes[..size])
 }
 
 // Feeds all the pieces, from argument i on, to a fresh stream.
-fn feed_all(code: Code, i: usize, pieces: usize) -> Feeding
+fn feed_all(code: Code, lists: &[u8], i: usize, pieces: usize) -> Feeding
     requires { ⌜ i + 2 * pieces < 2 ^ 64 ⌝ }
 {
     let stream = stream::begin();
@@ -122,7 +138,7 @@ fn feed_all(code: Code, i: usize, pieces: usize) -> Feeding
         fine: true,
     };
     for p in 0..pieces {
-        feeding = feed(code, feeding, p + 1, i + 2 * p);
+        feeding = feed(code, lists, feeding, p + 1, i + 2 * p);
         if !feeding.fine {
             return feeding;
         }
@@ -131,11 +147,18 @@ fn feed_all(code: Code, i: usize, pieces: usize) -> Feeding
 }
 
 // Finishes the stream into OUT.
-fn finish(code: Code, stream: Stream, delimiter: usize, known: Known, path: &[u8]) -> u8
+fn finish(
+    code: Code,
+    lists: &[u8],
+    stream: Stream,
+    delimiter: usize,
+    known: Known,
+    path: &[u8],
+) -> u8
     requires { ⌜ length (now path) ≤ 4091 ⌝ }
 {
     let mut tail = [0u8; rules::fibre::TAIL_BYTES];
-    let outcome = codes::finish(code, stream, delimiter, &mut tail);
+    let outcome = codes::finish(code, lists, stream, delimiter, &mut tail);
     let answer = outcome.answer;
     match answer {
         Answer::Done => {
@@ -164,41 +187,47 @@ fn feed_and_finish(code: Code, delimiter: usize, i: usize, pieces: usize) -> u8
     if to == 0 {
         return TROUBLE;
     }
+    let mut lists = io::large_buffer();
+    let lent = pair::read(code, &mut lists);
+    if !lent.fine {
+        return TROUBLE;
+    }
     if !are_pieces(code, i + 1, pieces) {
         return TROUBLE;
     }
-    let feeding = feed_all(code, i + 1, pieces);
+    let n = lent.size;
+    let feeding = feed_all(code, &lists[..n], i + 1, pieces);
     if !feeding.fine {
         return TROUBLE;
     }
     let later = feeding.stream;
-    let last = finish(code, later, delimiter, output.known, &path[..to]);
+    let last = finish(
+        code,
+        &lists[..n],
+        later,
+        delimiter,
+        output.known,
+        &path[..to],
+    );
     let refused = say_refused(feeding.refused);
     say::worse(feeding.status, say::worse(last, refused))
 }
 
-// Whether so many arguments are pieces, two each. Else says so.
-fn are_pairs(count: usize) -> bool {
-    if count % 2 != 0 {
-        say::fault(b"a piece has two parts; type BITS PIECE");
-        return false;
-    }
-    true
-}
-
-// stream DELIMITER OUT [BITS PIECE]...
+// stream LISTS DELIMITER OUT [BITS PIECE]...
 pub fn feed_fibre() -> u8 {
     let count = os::arg_count();
-    if count < 4 {
-        return say::fault(b"stream needs DELIMITER OUT [BITS PIECE]");
+    if count < 5 {
+        return say::fault(b"stream needs\nLISTS DELIMITER OUT [BITS PIECE]...");
     }
-    if !are_pairs(count - 4) {
-        return TROUBLE;
+    if (count - 5) % 2 != 0 {
+        return say::fault(
+            b"a piece has two parts; type BITS PIECE\nbefore them: LISTS DELIMITER OUT",
+        );
     }
-    let Number::Is(delimiter) = numbers::argument(2, b"DELIMITER", b"0 to 1023") else {
+    let Number::Is(delimiter) = numbers::argument(3, b"DELIMITER", b"0 to 1023") else {
         return TROUBLE;
     };
-    feed_and_finish(Code::Fibre, delimiter, 3, (count - 4) / 2)
+    feed_and_finish(Code::Fibre, delimiter, 4, (count - 5) / 2)
 }
 
 // coax CODE stream OUT [BITS PIECE]...
@@ -207,8 +236,8 @@ pub fn feed_coax(coax: CoaxCode) -> u8 {
     if count < 5 {
         return say::fault(b"stream needs OUT [BITS PIECE]");
     }
-    if !are_pairs(count - 5) {
-        return TROUBLE;
+    if (count - 5) % 2 != 0 {
+        return say::fault(b"a piece has two parts; type BITS PIECE");
     }
     feed_and_finish(Code::Coax(coax), codes::NO_DELIMITER, 4, (count - 5) / 2)
 }

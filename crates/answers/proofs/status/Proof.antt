@@ -17,14 +17,14 @@ enum-told c = search needs
 enum-told-2 : tie.Need-enum-told-2
 enum-told-2 c = search needs
 
+enum-told-3 : tie.Need-enum-told-3
+enum-told-3 c = search needs
+
 enum-known-said-2 : tie.Need-enum-known-said-2
 enum-known-said-2 c = search needs
 
 enum-known-said-3 : tie.Need-enum-known-said-3
 enum-known-said-3 c = search needs
-
-enum-told-3 : tie.Need-enum-told-3
-enum-told-3 c = search needs
 
 enum-told-4 : tie.Need-enum-told-4
 enum-told-4 c = search needs
@@ -40,6 +40,9 @@ enum-told-7 c = search needs
 
 enum-told-8 : tie.Need-enum-told-8
 enum-told-8 c = search needs
+
+enum-told-9 : tie.Need-enum-told-9
+enum-told-9 c = search needs
 
 enum-known-said-4 : tie.Need-enum-known-said-4
 enum-known-said-4 c = search needs
@@ -81,7 +84,10 @@ returns-12 : tie.Need-returns-12
 returns-12 c = search needs
 
 returns-13 : tie.Need-returns-13
-returns-13 c =
+returns-13 c = search needs
+
+returns-14 : tie.Need-returns-14
+returns-14 c =
     let told = c .before .before .said4 .given in
     rw (told .1, ne-eqb (told .0 .0) 0 (c .if1 .left)) refl
 
@@ -93,14 +99,15 @@ status-spec =
     judgement-status-requires
     enum-told
     enum-told-2
+    enum-told-3
     enum-known-said-2
     enum-known-said-3
-    enum-told-3
     enum-told-4
     enum-told-5
     enum-told-6
     enum-told-7
     enum-told-8
+    enum-told-9
     enum-known-said-4
     returns
     returns-2
@@ -114,4 +121,5 @@ status-spec =
     returns-10
     returns-11
     returns-12
-    returns-13)
+    returns-13
+    returns-14)

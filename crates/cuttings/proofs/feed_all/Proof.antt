@@ -5,10 +5,10 @@ use Rattle.cuttings.proofs.feed_all.Statement.{statement}
 use Rattle.cuttings.proofs.feed_all.Tie as tie
 
 abbrev Inv-loop : tie.InvT-loop
-Inv-loop payload size way₀ at₀ way at = at ≤ 1285
+Inv-loop payload size first second way₀ at₀ way at = at ≤ 1285
 
 abbrev μ-loop : tie.MeasureT-loop
-μ-loop payload size way₀ at₀ way at = 1285 - at
+μ-loop payload size first second way₀ at₀ way at = 1285 - at
 
 begin-requires : tie.Need-begin-requires Inv-loop μ-loop
 begin-requires c κs = search needs

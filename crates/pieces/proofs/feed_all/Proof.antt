@@ -5,10 +5,10 @@ use Rattle.pieces.proofs.feed_all.Statement.{statement}
 use Rattle.pieces.proofs.feed_all.Tie as tie
 
 abbrev Inv-loop : tie.InvT-loop
-Inv-loop code i pieces feeding₀ p₀ feeding p = p ≤ pieces
+Inv-loop code lists i pieces feeding₀ p₀ feeding p = p ≤ pieces
 
 abbrev μ-loop : tie.MeasureT-loop
-μ-loop code i pieces feeding₀ p₀ feeding p = pieces - p
+μ-loop code lists i pieces feeding₀ p₀ feeding p = pieces - p
 
 begin-requires : tie.Need-begin-requires Inv-loop μ-loop
 begin-requires c κs = search needs
