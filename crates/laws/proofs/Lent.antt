@@ -1,5 +1,5 @@
--- Laws of an order that begins with the refusal of the lists that are lent, 16: it says what the rest of the order does,
--- where these lists are reorderings. Any format, with lists or without.
+-- Laws of an order that begins with the refusal of the lists that are lent, 16: it says what the rest of the order
+-- does, where these lists are reorderings. Any format, with lists or without.
 --
 --   not-bad           a list that is one has no fault
 --   lent-numbered     every number of the order is above 0, if every number of the rest is

@@ -24,7 +24,7 @@ fn lowest(number: usize) -> u8
 }
 
 // Entry t of a list.
-pub fn entry(list: &[u8], t: usize) -> usize
+fn entry(list: &[u8], t: usize) -> usize
     requires { ⌜ 2 * t + 1 < length (now list) ⌝ }
     ensures { λ r. ⌜ r ≡ entryOf (now (list .entry)) t ⌝ }
 {

@@ -1,7 +1,7 @@
 // Paper 01, 'Refusal numbers', and W2 and W4 of paper 02.
 // A test for each kind of refusal, which answers its number or 0, and each operation's order of tests. A test is given
-// its limits. None needs an earlier one: where that tells a refusal, a later test may answer anything, and no more. Only
-// refusal 8 is tested after the others: its places are seen through the first list, which has to be one.
+// its limits. None needs an earlier one: where that tells a refusal, a later test may answer anything, and no more.
+// Only refusal 8 is tested after the others: its places are seen through the first list, which has to be one.
 // The orders here are the fibre code's, and what a piece asks of any code; those of the coax codes have a module.
 pub mod coax;
 
@@ -10,12 +10,12 @@ ghost use mathlib.Core.Logic.{_⊎_};
 ghost use mathlib.Core.List.{[], _∷_};
 ghost use Prim.Native.Nat.{ℕ, _+_, _≤_, _<_};
 ghost use lib.ListN.{length};
-ghost use Rattle.rules.specs.Bits.{bit, need};
+ghost use Rattle.rules.specs.Bits.{need};
 ghost use Rattle.rules.specs.Lists.{Listed};
 ghost use Rattle.rules.specs.Matrix.{places, checks, payloadPlaces};
 ghost use Rattle.rules.specs.Table.{fibre};
 ghost use Rattle.rules.specs.Formats.{Format, fibreFormat};
-ghost use Rattle.rules.specs.Refusals.{refusal, tells, unusedSet, someShortened, BadList, ofPiece};
+ghost use Rattle.rules.specs.Refusals.{refusal, tells, unusedSet, someShortened, ofLists, ofPiece};
 ghost use Rattle.rules.specs.Refusals.{encodeOrder, pieceOrder, finishOrder, completeOrder, wordOrder, lineOrder};
 ghost use Rattle.rules.specs.Terms.{FirstTold, byFirst};
 ghost use Rattle.lists.specs.Picked.{Tested};
@@ -109,7 +109,7 @@ fn shortened_set(count: usize, word: &[u8], first: &[u8]) -> usize
     0
 }
 
-// Whether a list is one of the payload places, and whether one is of the parity places: each with marks of its own size.
+// Whether a list is one of the payload places, and whether one is of the parity places: marks of its own size for each.
 fn is_first(first: &[u8]) -> bool
     ensures { λ r. ⌜ Tested (payloadPlaces fibre) (now (first .entry)) r ⌝ }
 {
@@ -124,12 +124,9 @@ fn is_second(second: &[u8]) -> bool
     lists::reorders(second, fibre::CHECKS, &mut marks)
 }
 
-// 16: a list has another length, or is no reordering of its places.
-fn bad_lists(first: &[u8], second: &[u8]) -> usize
-    ensures { λ r. ⌜
-        tells (refusal 16 (BadList (payloadPlaces fibre) (now (first .entry))
-        ⊎ BadList (checks fibre) (now (second .entry))) ∷ []) r
-        ⌝ }
+// 16: a list has another length, or is no reordering of its places. The program asks it of lists alone.
+pub fn bad_lists(first: &[u8], second: &[u8]) -> usize
+    ensures { λ r. ⌜ tells (ofLists (fibreFormat (now (first .entry)) (now (second .entry)))) r ⌝ }
 {
     if !is_first(first) {
         return 16;

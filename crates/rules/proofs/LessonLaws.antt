@@ -1,5 +1,5 @@
--- The ten proved lessons of paper 01's sheet are right where the order of the bits is kept, and so are those of the coax
--- codes. Plain of `theorems` has the ten with the pair of lists that changes nothing.
+-- The ten proved lessons of paper 01's sheet are right where the order of the bits is kept, and so are those of the
+-- coax codes. Plain of `theorems` has the ten with the pair of lists that changes nothing.
 --
 --   lessons-right    the single claim, of the ten
 --   coax-right       of each coax code
@@ -44,8 +44,8 @@ module _ (f : Format) where
       howMany-same (checks c) (rowFails c (only p)) _ (λ m l. ap (λ (x : ℕ). eqb x 1) (check-only c m p h))
 
   -- a 1 at place p, which is not shortened, fails the checks of p: first n, where p is in none below n
-  first-check : (K p n k : ℕ) → p < places c → ((m : ℕ) → K ≤ f .first m → m < payloadPlaces c → m ≡ p → ⊥) → n < checks c
-      → one c n p ≡ 1 → T (every n (λ m. eqb (one c m p) 0)) → k ≡ ones p
+  first-check : (K p n k : ℕ) → p < places c → ((m : ℕ) → K ≤ f .first m → m < payloadPlaces c → m ≡ p → ⊥)
+      → n < checks c → one c n p ≡ 1 → T (every n (λ m. eqb (one c m p) 0)) → k ≡ ones p
       → WordVerdict f K (only p) (Rejected (Check n k))
   first-check K p n k h s l e t o = (
     (λ m a. let z : only p m ≡ 0 = only-elsewhere p m (s m (a .0) (a .1)) in omega (arith, a .2)),

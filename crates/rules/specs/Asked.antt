@@ -1,4 +1,5 @@
--- Paper 01, 'Refusal numbers', and W2 and W4 of paper 02, read the other way round: what each operation asks of its inputs.
+-- Paper 01, 'Refusal numbers', and W2 and W4 of paper 02, read the other way round: what each operation asks of its
+-- inputs.
 --
 --   ListsFit f                 each list that is lent is a reordering of its places
 --   WholeBlocks f K            K bits are whole data blocks, from the least to the most

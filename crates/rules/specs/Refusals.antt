@@ -1,5 +1,5 @@
--- Paper 01, 'Refusal numbers', and W2 and W4 of paper 02: when each is given, and the order of each operation. 0 stands for no
--- refusal. A code's format has the limits.
+-- Paper 01, 'Refusal numbers', and W2 and W4 of paper 02: when each is given, and the order of each operation. 0 stands
+-- for no refusal. A code's format has the limits.
 --
 --   Refusal      its number, and when it applies
 --   refusal k A  the refusal numbered k, which applies where A holds

@@ -3,8 +3,8 @@
 --
 --   streamBytes       384: the bytes of running checks that a stream holds
 --   fresh             0 bits held and 384 zero bytes of running checks
---   Fed f b s t t′    t′ is the stream t after the piece s of b bits: they stand at the next b places, and the checks of
---                     these bits, reordered, are added to the running checks; check n is bit n of these
+--   Fed f b s t t′    t′ is the stream t after the piece s of b bits: they stand at the next b places, and the checks
+--                     of these bits, reordered, are added to the running checks; check n is bit n of these
 --
 -- Believe this file beside the paper; nothing here is proved.
 use mathlib.Core.Path.{_≡_}

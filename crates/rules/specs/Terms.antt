@@ -1,5 +1,6 @@
 -- For the contracts of inner functions: a check by its block columns, the first of some numbers, and the fibre code by
--- one list alone. No promise of a public operation cites this file. The law check-columns says that a check is the sum mod 2 of its terms.
+-- one list alone. No promise of a public operation cites this file. The law check-columns says that a check is the sum
+-- mod 2 of its terms.
 --
 --   proper z a      the test of an entry, for blocks of z bits: it is -1, or a turn below z
 --   Proper z l      each entry of the line l passes it

@@ -1,5 +1,5 @@
--- Paper 01, 'From payload to line word', and W2 of paper 02: the full word of a payload, in inner order, the parity that
--- makes all its checks hold, and the line word.
+-- Paper 01, 'From payload to line word', and W2 of paper 02: the full word of a payload, in inner order, the parity
+-- that makes all its checks hold, and the line word.
 --
 --   padded K u          step 1: K bits of u, then zeros
 --   reordered f x       step 2: inner place t is taken from place first t of x

@@ -1,5 +1,5 @@
-// The running checks of the fibre code: it holds the table's copy, and hands on a line of it for each block. The bits of
-// a payload reach them in inner order, picked by the first list.
+// The running checks of the fibre code: it holds the table's copy, and hands on a line of it for each block. The bits
+// of a payload reach them in inner order, picked by the first list.
 ghost use Prim.Native.Nat.{_+_, _*_, _≤_};
 ghost use lib.ListN.{length};
 ghost use Rattle.rules.specs.Bits.{bit, need, placed, Adds};

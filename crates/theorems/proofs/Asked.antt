@@ -16,7 +16,8 @@ use Rattle.rules.specs.Lists.{Lists, none, pair, AreListed}
 use Rattle.rules.specs.Formats.{Format}
 use Rattle.rules.specs.Refusals.{Refusal, badCount, brokenBlock, wrongBytes, unusedSet, badLists, ofLists}
 use Rattle.rules.specs.Refusals.{encodeOrder, pieceOrder, finishOrder, completeOrder, wordOrder, lineOrder}
-use Rattle.rules.specs.Asked.{ListsFit, WholeBlocks, EncodeAsks, CompleteAsks, PieceAsks, FinishAsks, WordAsks, LineAsks}
+use Rattle.rules.specs.Asked.{ListsFit, WholeBlocks}
+use Rattle.rules.specs.Asked.{EncodeAsks, CompleteAsks, PieceAsks, FinishAsks, WordAsks, LineAsks}
 use Rattle.rules.specs.Coax.{Counted}
 use Rattle.rules.specs.Promises.{refusalOf, refusalIn}
 use Rattle.rules.specs.Promises.{Completed, WordChecked, Encoded, LineChecked, PieceTaken, Finished}

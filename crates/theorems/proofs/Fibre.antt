@@ -1,5 +1,5 @@
--- The fibre code's sizes are what the theorems ask, whatever lists are lent. So its theorems are those of any format, at
--- fibreFormat a b.
+-- The fibre code's sizes are what the theorems ask, whatever lists are lent. So its theorems are those of any format,
+-- at fibreFormat a b.
 --
 --   fibre-sized    the sizes of the fibre code's format go together
 use mathlib.Core.Path.{refl}

@@ -142,7 +142,8 @@ answer-fits : (j : Judgement) → CheckAnswer j → JudgementFits j
 answer-fits j a =
     ⊎-elim (λ x. word-fits (x .0) (x .1) (x .2) (x .3) j (x .4))
     (λ b.
-    ⊎-elim (λ x. line-fits (x .0) (x .1) (x .2) (x .3) (x .4) j (x .5)) (λ x. coax-check-fits (x .0) (x .1) (x .2) j (x .3)) b) a
+    ⊎-elim (λ x. line-fits (x .0) (x .1) (x .2) (x .3) (x .4) j (x .5))
+    (λ x. coax-check-fits (x .0) (x .1) (x .2) j (x .3)) b) a
 
 pub answers-apart : (i j : Judgement) → CheckAnswer i → CheckAnswer j → judgementNumber i ≡ judgementNumber j → i ≡ j
 answers-apart i j a b e = apart i j (answer-fits i a) (answer-fits j b) e

@@ -152,7 +152,8 @@ module _ (f : Format) (one : OneParity (f .code)) (sized : Sized f) where
     verdict = (
       p,
       parity-as (f .code)
-          (λ n h. padded-same K (λ m i. sym (line-bit m (omega arith) ∙ run-low K (bit u) (tail f p d) m i)) (f .first n))
+          (λ n h.
+          padded-same K (λ m i. sym (line-bit m (omega arith) ∙ run-low K (bit u) (tail f p d) m i)) (f .first n))
           (e .effect .1),
       tail-accepted f K l d p (λ n h. line-bit (K + n) (omega arith) ∙ line-high f K (bit u) p d n),
     )
@@ -193,5 +194,6 @@ module _ (f : Format) (one : OneParity (f .code)) (sized : Sized f) where
           packed-same line-packed (line-good K k d c .asked .line) (bytes-take (need (lineBits f K)) o′ bytes′) bytes
           (λ n h.
           bit-take o′ (need (lineBits f K)) n (omega arith)
-          ∙ written-bit (encode-exact q (parity-as (f .code) (λ m i. padded-same K same (f .first m)) (c .verdict .1))) n h
+          ∙ written-bit
+          (encode-exact q (parity-as (f .code) (λ m i. padded-same K same (f .first m)) (c .verdict .1))) n h
           ∙ accepted-bit n h)

@@ -1,6 +1,6 @@
--- W2 of paper 02: the pair of lists that changes nothing gives paper 01's words. With it each promise says, no less and no
--- more, what it says of fibreKept: there both interleavers keep the order and no list is lent, so that the orders, the
--- words, the verdicts and the running checks are paper 01's, as W3 and W4 amend them.
+-- W2 of paper 02: the pair of lists that changes nothing gives paper 01's words. With it each promise says, no less and
+-- no more, what it says of fibreKept: there both interleavers keep the order and no list is lent, so that the orders,
+-- the words, the verdicts and the running checks are paper 01's, as W3 and W4 amend them.
 --
 --   plain-pair      there is such a pair, as bytes
 --   plain-fits      it is one of reorderings, so it is never refused
@@ -81,8 +81,14 @@ module _ (a b : List ℕ) (first : Plain (payloadPlaces fibre) a) (second : Plai
     promised : (x : Answer) {A A′ B : Type 0} → Exactly A A′
         → Exactly (Promise (ofLists lentKept ++ o) x A B) (Promise o x A′ B)
     promised x e = (
-      λ p. record { told = lent-rest lentKept o (refusalOf x) plain-fits (p .told); effect = by-as x _ e .0 (p .effect) },
-      λ p. record { told = lent-told lentKept o (refusalOf x) plain-fits (p .told); effect = by-as x _ e .1 (p .effect) },
+      λ p. record {
+        told = lent-rest lentKept o (refusalOf x) plain-fits (p .told);
+        effect = by-as x _ e .0 (p .effect);
+      },
+      λ p. record {
+        told = lent-told lentKept o (refusalOf x) plain-fits (p .told);
+        effect = by-as x _ e .1 (p .effect);
+      },
     )
 
     checked : {P P′ : Verdict → Type 0} → ((v : Verdict) → Exactly (P v) (P′ v)) → (j : Judgement)

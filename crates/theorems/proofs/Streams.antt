@@ -118,7 +118,10 @@ module _ (f : Format) where
         let q = running y in
         stream-of (r .held ∙ sym (q .held))
         (bits-same _ _ (r .bytes) (q .bytes) (r .long ∙ sym (q .long))
-        (λ n l. r .checks n ∙ check-same (f .code) n (reordered f u) (reordered f v) (λ m k. same-bits (f .first m)) ∙ sym (q .checks n)))
+        (λ n l.
+        r .checks n
+        ∙ check-same (f .code) n (reordered f u) (reordered f v) (λ m k. same-bits (f .first m))
+        ∙ sym (q .checks n)))
 
   -- a finish that is done leaves a fresh stream, and a finish of a fresh stream is refused by 1
   pub fresh-again : (d : ℕ) (t : Stream) (o : List ℕ) (r : Outcome) (o′ : List ℕ) → r .answer ≡ Done
@@ -159,7 +162,9 @@ module _ (f : Format) where
         let q = done-part (r .answer) e p .1 in
         let parity =
         payload-parity (f .code) (reordered f (padded h (bit v))) (t .checks) (q .0)
-        (λ m i. running x .checks m ∙ check-same (f .code) m (reordered f u) _ (λ j z. held-padded (running x) v same j)) (q .1) in
+        (λ m i.
+        running x .checks m ∙ check-same (f .code) m (reordered f u) _ (λ j z. held-padded (running x) v same j))
+        (q .1) in
         written-bit (q .2) n k
         ∙ sym
         (written-bit (encode-exact f one sized h v d l l′ w (q .0) parity) (h + n) (omega arith)

@@ -13,7 +13,8 @@ returns c =
     let first = tenth .before in
     let sixteenth = first .before in
     let a = sixteenth .before .before .before .before .args in
-    told-tested (wordOrder (fibreFormat (a .first .now) (a .second .now)) (a .count) (a .word .now)) tt (c .first-told .ensures)
+    let f = fibreFormat (a .first .now) (a .second .now) in
+    told-tested (wordOrder f (a .count) (a .word .now)) tt (c .first-told .ensures)
     (test (sixteenth .bad-lists .ensures) (λ listed.
     test (first .outside .ensures) (λ good.
     test (tenth .differs .ensures) (λ whole.
@@ -22,5 +23,5 @@ returns c =
 pub check-word-spec : {M : Type 1} → statement M
 check-word-spec =
     tie.close
-    (tie.spec (λ c κs. search needs) (λ c κs. search needs) (λ c κs. search needs) (λ c κs. search needs) (λ c κs. search needs)
-    (λ c. search needs) (λ c κs. search needs) returns)
+    (tie.spec (λ c κs. search needs) (λ c κs. search needs) (λ c κs. search needs) (λ c κs. search needs)
+    (λ c κs. search needs) (λ c. search needs) (λ c κs. search needs) returns)

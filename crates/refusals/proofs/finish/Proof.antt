@@ -15,7 +15,8 @@ returns c =
     let seventh = first .before in
     let sixteenth = seventh .before in
     let a = sixteenth .before .before .before .args in
-    told-tested (finishOrder (fibreFormat (a .first .now) (a .second .now)) (a .held) (a .delimiter) (a .room)) tt (c .first-told .ensures)
+    let f = fibreFormat (a .first .now) (a .second .now) in
+    told-tested (finishOrder f (a .held) (a .delimiter) (a .room)) tt (c .first-told .ensures)
     (test (sixteenth .bad-lists .ensures) (λ listed.
     test (seventh .above .ensures) (λ held.
     test (first .outside .ensures) (λ good.
@@ -26,5 +27,5 @@ returns c =
 pub finish-spec : {M : Type 1} → statement M
 finish-spec =
     tie.close
-    (tie.spec (λ c κs. search needs) (λ c κs. search needs) (λ c κs. search needs) (λ c κs. search needs) (λ c κs. search needs)
-    (λ c κs. search needs) (λ c. search needs) (λ c κs. search needs) returns)
+    (tie.spec (λ c κs. search needs) (λ c κs. search needs) (λ c κs. search needs) (λ c κs. search needs)
+    (λ c κs. search needs) (λ c κs. search needs) (λ c. search needs) (λ c κs. search needs) returns)

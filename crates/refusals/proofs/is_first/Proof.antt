@@ -10,4 +10,5 @@ use Rattle.refusals.proofs.is_first.Tie as tie
 pub is-first-spec : {M : Type 1} → statement M
 is-first-spec =
     tie.close
-    (tie.spec (λ c. search needs) (λ c κs. (search needs, byte-zeros (payloadPlaces fibre + 1), search needs)) (λ c. search needs))
+    (tie.spec (λ c. search needs) (λ c κs. (search needs, byte-zeros (payloadPlaces fibre + 1), search needs))
+    (λ c. search needs))

@@ -10,4 +10,5 @@ use Rattle.refusals.proofs.is_second.Tie as tie
 pub is-second-spec : {M : Type 1} → statement M
 is-second-spec =
     tie.close
-    (tie.spec (λ c. search needs) (λ c κs. (search needs, byte-zeros (checks fibre + 1), search needs)) (λ c. search needs))
+    (tie.spec (λ c. search needs) (λ c κs. (search needs, byte-zeros (checks fibre + 1), search needs))
+    (λ c. search needs))

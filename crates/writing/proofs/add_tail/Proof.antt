@@ -12,8 +12,8 @@ returns c =
     let first = told .before .before .before in
     let picked = first .before .before .before .before in
     let a = picked .before .before .before .before .before .args in
-    tail-added (bySecond (a .second .now)) (lit≤ tt) (a .parity .now) (a .delimiter) (picked .pick-sent .last .0) (a .at)
-    (picked .pick-sent .ensures .1) (first .add-run .ensures)
+    tail-added (bySecond (a .second .now)) (lit≤ tt) (a .parity .now) (a .delimiter) (picked .pick-sent .last .0)
+    (a .at) (picked .pick-sent .ensures .1) (first .add-run .ensures)
     (rw (told .digits-of .ensures) at (c .before .before .add-run2 .ensures))
 
 pub add-tail-spec : {M : Type 1} → statement M

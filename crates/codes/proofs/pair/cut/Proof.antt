@@ -19,7 +19,9 @@ cut-short v h =
     }
 
 returns : tie.Need-returns
-returns c = (counts _ _ (omega arith), cut-short _ (omega arith))
+returns c =
+    let v = c .before .args .pair .now in
+    (counts (length v) v (omega arith), cut-short v (omega arith))
 
 returns-2 : tie.Need-returns-2
 returns-2 c = (counts 29184 (c .before .args .pair .now) (omega arith), record { first = refl; second = refl })
