@@ -14,8 +14,8 @@ use lib.ListN.{length, take, drop, length-append, length-drop}
 use lib.Seq.{take-at, drop-at, take-all}
 use Rattle.io.specs.Counts.{Counts}
 use Rattle.io.proofs.Counting.{counts}
-use Rattle.rules.specs.Lists.{Listed, Plain}
-use Rattle.rules.specs.Refusals.{BadList}
+use Rattle.rules.specs.Lists.{Plain}
+use Rattle.laws.proofs.Lent.{not-bad}
 use Rattle.answers.specs.declared.Said.{Said}
 use Rattle.codes.specs.Codes.{firstIn, secondIn, PlainPair, CutAt, PairSaid}
 
@@ -48,15 +48,10 @@ by-cut P v n cut h =
     subst (λ (b : List ℕ). P (firstIn v) b) (rest-is v n ∙ cut .second)
     (subst (λ (a : List ℕ). P a (take (length v - n) (drop n v))) (cut .first) h)
 
--- no list is both a reordering of n places and none
-not-both : {n : ℕ} {l : List ℕ} → Listed n l → BadList n l → ⊥
-not-both h (inl f) = f (h .bytes)
-not-both h (inr f) = f (h .reorders)
-
 pub pair-same : (v : List ℕ) (s s′ : Said) → PairSaid v s → PairSaid v s′ → s ≡ s′
 pair-same v s s′ (inl (e, a, b)) (inl (e′, a′, b′)) = cc
 pair-same v s s′ (inr (e, f)) (inr (e′, f′)) = cc
-pair-same v s s′ (inl (e, a, b)) (inr (e′, inl f)) = absurd (not-both a f)
-pair-same v s s′ (inl (e, a, b)) (inr (e′, inr f)) = absurd (not-both b f)
-pair-same v s s′ (inr (e, inl f)) (inl (e′, a, b)) = absurd (not-both a f)
-pair-same v s s′ (inr (e, inr f)) (inl (e′, a, b)) = absurd (not-both b f)
+pair-same v s s′ (inl (e, a, b)) (inr (e′, inl f)) = absurd (not-bad 14592 _ a f)
+pair-same v s s′ (inl (e, a, b)) (inr (e′, inr f)) = absurd (not-bad 3072 _ b f)
+pair-same v s s′ (inr (e, inl f)) (inl (e′, a, b)) = absurd (not-bad 14592 _ a f)
+pair-same v s s′ (inr (e, inr f)) (inl (e′, a, b)) = absurd (not-bad 3072 _ b f)

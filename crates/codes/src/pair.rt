@@ -1,6 +1,5 @@
 // The two lists that a fibre command is lent, joined to one pair: where a pair is cut, the one that changes nothing,
 // how LISTS names one, and what is answered of one.
-ghost use mathlib.Core.Path.{_≡_};
 ghost use Prim.Native.Nat.{_≤_};
 ghost use lib.ListN.{length, take};
 ghost use Rattle.io.specs.Counts.{Counts};
@@ -78,13 +77,8 @@ pub fn answer(pair: &[u8]) -> Said
     ensures { λ r. ⌜ PairSaid (now (pair .entry)) r ⌝ }
 {
     let at = cut(pair);
-    let mut marks = [0u8; fibre::PAYLOAD_PLACES + 1];
-    if !lists::reorders(&pair[..at], fibre::PAYLOAD_PLACES, &mut marks) {
-        return Said::Refused(16);
+    if refusals::bad_lists(&pair[..at], &pair[at..]) == 0 {
+        return Said::Reordering;
     }
-    let mut marks = [0u8; fibre::CHECKS + 1];
-    if !lists::reorders(&pair[at..], fibre::CHECKS, &mut marks) {
-        return Said::Refused(16);
-    }
-    Said::Reordering
+    Said::Refused(16)
 }
