@@ -6,6 +6,8 @@
 --   plain-fits      it is one of reorderings, so it is never refused
 --   plain-encoded, plain-line-checked, plain-completed, plain-word-checked, plain-taken, plain-finished
 --                   each promise
+--   plain-host-encoded, plain-host-word, plain-host-line
+--                   each promise of the C boundary
 --   plain-lessons   the ten lessons are right with it
 use mathlib.Core.Path.{_≡_, sym, ap₂, subst}
 use mathlib.Core.List.{List, _++_}
@@ -36,6 +38,7 @@ use Rattle.rules.proofs.LessonLaws.{lessons-right}
 use Rattle.laws.proofs.Judged.{word-by, tail-by}
 use Rattle.laws.proofs.Lent.{lent-told, lent-rest}
 use Rattle.laws.proofs.Reorderings.{plain-listed, plain-place, plain-exists}
+use Rattle.host.specs.Numbers.{Answered, Judging, HostEncoded, HostWord, HostLine}
 use Rattle.theorems.specs.Exactly.{Exactly}
 
 pub plain-pair : (a : List ℕ) × (b : List ℕ) × Bytes a × Bytes b × Plain (payloadPlaces fibre) a
@@ -57,6 +60,21 @@ judged-as : {P P′ : Verdict → Type 0} → ((v : Verdict) → Exactly (P v) (
     → Exactly (judged P j) (judged P′ j)
 judged-as e (judgement.Judged v) = e v
 judged-as e (judgement.Refused n) = alike
+
+-- the same, told by number at the C boundary
+answered-as : {P P′ : Answer → Type 0} {r : ℕ} → ((x : Answer) → Exactly (P x) (P′ x))
+    → Exactly (Answered P r) (Answered P′ r)
+answered-as e = (
+  λ x. record { answer = x .answer; promised = e (x .answer) .0 (x .promised); result = x .result },
+  λ x. record { answer = x .answer; promised = e (x .answer) .1 (x .promised); result = x .result },
+)
+
+judging-as : {P P′ : Judgement → Type 0} {r : ℕ} → ((j : Judgement) → Exactly (P j) (P′ j))
+    → Exactly (Judging P r) (Judging P′ r)
+judging-as e = (
+  λ x. record { judgement = x .judgement; checked = e (x .judgement) .0 (x .checked); result = x .result },
+  λ x. record { judgement = x .judgement; checked = e (x .judgement) .1 (x .checked); result = x .result },
+)
 
 module _ (a b : List ℕ) (first : Plain (payloadPlaces fibre) a) (second : Plain (checks fibre) b) where
   -- the lists are lent, and the order is kept
@@ -158,6 +176,18 @@ module _ (a b : List ℕ) (first : Plain (payloadPlaces fibre) a) (second : Plai
   plain-finished d t o r o′ =
       plainly (λ f. Finished f d t o r o′) _
       (promised (finishOrder fibreKept (t .held) d (length o)) (r .answer) alike)
+
+  pub plain-host-encoded : (K : ℕ) (u : List ℕ) (d : ℕ) (o : List ℕ) (r : ℕ) (o′ : List ℕ)
+      → Exactly (HostEncoded a b K u d o r o′) (Answered (λ x. Encoded fibreKept K u d o x o′) r)
+  plain-host-encoded K u d o r o′ = answered-as (λ x. plain-encoded K u d o x o′)
+
+  pub plain-host-word : (K : ℕ) (w : List ℕ) (r : ℕ)
+      → Exactly (HostWord a b K w r) (Judging (WordChecked fibreKept K w) r)
+  plain-host-word K w r = judging-as (plain-word-checked K w)
+
+  pub plain-host-line : (K : ℕ) (l : List ℕ) (d r : ℕ)
+      → Exactly (HostLine a b K l d r) (Judging (LineChecked fibreKept K l d) r)
+  plain-host-line K l d r = judging-as (plain-line-checked K l d)
 
   pub plain-lessons : AllRight (fibreFormat a b) lessons
   plain-lessons = subst (λ (f : Format). AllRight f lessons) (sym plain-format) lessons-right
