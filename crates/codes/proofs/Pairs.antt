@@ -8,33 +8,39 @@
 use mathlib.Core.Path.{_≡_, sym, subst, _∙_}
 use mathlib.Core.Logic.{inl, inr}
 use mathlib.Core.List.{List, _++_, append-assoc}
-use Prim.Native.Nat.{ℕ, _-_}
+use Prim.Native.Nat.{ℕ, _-_, _*_}
 use native.Mathlib.Omega.{arith}
 use lib.ListN.{length, take, drop, length-append, length-drop}
 use lib.Seq.{take-at, drop-at, take-all}
 use Rattle.io.specs.Counts.{Counts}
 use Rattle.io.proofs.Counting.{counts}
+use Rattle.rules.specs.Matrix.{checks, payloadPlaces}
+use Rattle.rules.specs.Table.{fibre}
 use Rattle.rules.specs.Lists.{Plain}
 use Rattle.laws.proofs.Lent.{not-bad}
 use Rattle.answers.specs.declared.Said.{Said}
-use Rattle.codes.specs.Codes.{firstIn, secondIn, PlainPair, CutAt, PairSaid}
+use Rattle.codes.specs.Codes.{firstIn, secondIn, pairBytes, PlainPair, CutAt, PairSaid}
+
+-- the bytes of the first list
+abbrev front : ℕ
+front = 2 * payloadPlaces fibre
 
 abbrev pub joined : List ℕ → List ℕ → List ℕ → List ℕ → List ℕ
-joined a t b u = take 29184 (a ++ t) ++ (b ++ u)
+joined a t b u = take front (a ++ t) ++ (b ++ u)
 
-joined-is : (a t b u : List ℕ) → length a ≡ 29184 → joined a t b u ≡ (a ++ b) ++ u
-joined-is a t b u h = rw (take-at a t 29184 h) (sym (append-assoc a b u))
+joined-is : (a t b u : List ℕ) → length a ≡ front → joined a t b u ≡ (a ++ b) ++ u
+joined-is a t b u h = rw (take-at a t front h) (sym (append-assoc a b u))
 
-pub plain-joined : (a t b u : List ℕ) → Plain 14592 a → Plain 3072 b
-    → Counts 35328 (joined a t b u) × PlainPair (take 35328 (joined a t b u))
+pub plain-joined : (a t b u : List ℕ) → Plain (payloadPlaces fibre) a → Plain (checks fibre) b
+    → Counts pairBytes (joined a t b u) × PlainPair (take pairBytes (joined a t b u))
 plain-joined a t b u p q =
-    let long : length (a ++ b) ≡ 35328 = simp length-append (omega (arith, p .bytes, q .bytes)) in
+    let long : length (a ++ b) ≡ pairBytes = simp length-append (omega (arith, p .bytes, q .bytes)) in
     rw (joined-is a t b u (p .bytes)) (
-      counts 35328 ((a ++ b) ++ u) (simp length-append (omega (arith, p .bytes, q .bytes))),
-      rw (take-at (a ++ b) u 35328 long)
+      counts pairBytes ((a ++ b) ++ u) (simp length-append (omega (arith, p .bytes, q .bytes))),
+      rw (take-at (a ++ b) u pairBytes long)
           (record {
-            first = rw (take-at a b 29184 (p .bytes)) p;
-            second = rw (drop-at a b 29184 (p .bytes)) q;
+            first = rw (take-at a b front (p .bytes)) p;
+            second = rw (drop-at a b front (p .bytes)) q;
           }),
     )
 

@@ -5,6 +5,7 @@
 --   NamedBy s n        what the name s names: the code of that name, or nothing where no code has it
 --   firstIn v          the first list of a pair v, which is both lists joined: its first 29,184 bytes
 --   secondIn v         the second list: the rest, 6,144 bytes where the pair is as long as it has to be
+--   pairBytes          the bytes of both lists: 35,328
 --   fibreIn v          the fibre code by a pair. The coax codes have no lists, and do not read v
 --   PlainPair v        a pair of which both lists change nothing
 --   EncodedBy c v ..   encode; a coax word has no delimiter
@@ -18,8 +19,10 @@
 use mathlib.Core.Path.{_≡_}
 use mathlib.Core.Logic.{_⊎_}
 use mathlib.Core.List.{List}
-use Prim.Native.Nat.{ℕ}
+use Prim.Native.Nat.{ℕ, _+_, _*_}
 use lib.ListN.{take, drop}
+use Rattle.rules.specs.Matrix.{checks, payloadPlaces}
+use Rattle.rules.specs.Table.{fibre}
 use Rattle.rules.specs.Lists.{Listed, Plain}
 use Rattle.rules.specs.Formats.{Format, fibreFormat}
 use Rattle.rules.specs.Refusals.{BadList}
@@ -47,17 +50,20 @@ NamedBy s (Is k) = s ≡ nameOf k
 NamedBy s Nothing = (k : CoaxCode) → s ≡ nameOf k → ⊥
 
 abbrev pub firstIn : List ℕ → List ℕ
-firstIn v = take 29184 v
+firstIn v = take (2 * payloadPlaces fibre) v
 
 abbrev pub secondIn : List ℕ → List ℕ
-secondIn v = drop 29184 v
+secondIn v = drop (2 * payloadPlaces fibre) v
+
+abbrev pub pairBytes : ℕ
+pairBytes = 2 * payloadPlaces fibre + 2 * checks fibre
 
 abbrev pub fibreIn : List ℕ → Format
 fibreIn v = fibreFormat (firstIn v) (secondIn v)
 
 pub record PlainPair (v : List ℕ) : Type 0 where
-  pub first : Plain 14592 (firstIn v)
-  pub second : Plain 3072 (secondIn v)
+  pub first : Plain (payloadPlaces fibre) (firstIn v)
+  pub second : Plain (checks fibre) (secondIn v)
 
 abbrev pub EncodedBy : Code → List ℕ → ℕ → List ℕ → ℕ → List ℕ → Answer → List ℕ → Type 0
 EncodedBy Fibre v K u d o a o′ = Encoded (fibreIn v) K u d o a o′
@@ -81,5 +87,5 @@ pub record CutAt (v : List ℕ) (n : ℕ) : Type 0 where
 
 abbrev pub PairSaid : List ℕ → Said → Type 0
 PairSaid v s =
-    ((s ≡ Reordering) × Listed 14592 (firstIn v) × Listed 3072 (secondIn v))
-    ⊎ ((s ≡ Refused 16) × (BadList 14592 (firstIn v) ⊎ BadList 3072 (secondIn v)))
+    ((s ≡ Reordering) × Listed (payloadPlaces fibre) (firstIn v) × Listed (checks fibre) (secondIn v))
+    ⊎ ((s ≡ Refused 16) × (BadList (payloadPlaces fibre) (firstIn v) ⊎ BadList (checks fibre) (secondIn v)))

@@ -3,7 +3,7 @@
 ghost use Prim.Native.Nat.{_≤_};
 ghost use lib.ListN.{length, take};
 ghost use Rattle.io.specs.Counts.{Counts};
-ghost use Rattle.codes.specs.Codes.{PlainPair, CutAt, PairSaid};
+ghost use Rattle.codes.specs.Codes.{pairBytes, PlainPair, CutAt, PairSaid};
 use crate::Code;
 use answers::Said;
 use console::files;
@@ -26,7 +26,7 @@ pub fn cut(pair: &[u8]) -> usize
 
 // Makes the pair that changes nothing at the start of a room.
 pub fn fill_plain(room: &mut [u8]) -> usize
-    requires { ⌜ 35328 ≤ length (now room) ⌝ }
+    requires { ⌜ pairBytes ≤ length (now room) ⌝ }
     ensures { λ r. ⌜ Counts r (now (room .exit)) ⌝ }
     ensures { λ r. ⌜ PlainPair (take r (now (room .exit))) ⌝ }
 {
@@ -37,7 +37,7 @@ pub fn fill_plain(room: &mut [u8]) -> usize
 
 // Reads the pair that LISTS names: `plain` names the one that changes nothing, and all else a file.
 pub fn read_at(name: &[u8], room: &mut [u8]) -> Got
-    requires { ⌜ 35328 ≤ length (now room) ⌝ }
+    requires { ⌜ pairBytes ≤ length (now room) ⌝ }
     ensures { λ r. ⌜ Counts (r .size) (now (room .exit)) ⌝ }
 {
     if check::same(name, b"plain") {
@@ -52,7 +52,7 @@ pub fn read_at(name: &[u8], room: &mut [u8]) -> Got
 
 // Reads the pair of a command: LISTS is argument 2, and a coax command has none.
 pub fn read(code: Code, room: &mut [u8]) -> Got
-    requires { ⌜ 35328 ≤ length (now room) ⌝ }
+    requires { ⌜ pairBytes ≤ length (now room) ⌝ }
     ensures { λ r. ⌜ Counts (r .size) (now (room .exit)) ⌝ }
 {
     let Code::Fibre = code else {

@@ -6,6 +6,7 @@ mod words;
 ghost use Prim.Native.Nat.{_≤_};
 ghost use lib.ListN.{length};
 ghost use Rattle.io.specs.Counts.{Counts};
+ghost use Rattle.codes.specs.Codes.{pairBytes};
 use answers::Said;
 use codes::Code;
 use codes::pair;
@@ -128,7 +129,7 @@ fn end(reading: Reading, payload: &[u8], line: &[u8], lists: &[u8]) -> Reading {
 
 // A line that names lists: they are read, and hold from there on. It opens no vector.
 fn take_lists(reading: Reading, name: &[u8], lists: &mut [u8]) -> Reading
-    requires { ⌜ 35328 ≤ length (now lists) ⌝ }
+    requires { ⌜ pairBytes ≤ length (now lists) ⌝ }
 {
     let mut later = reading;
     let got = pair::read_at(name, lists);
@@ -206,7 +207,7 @@ fn take_line(
     line: &mut [u8],
     lists: &mut [u8],
 ) -> Reading
-    requires { ⌜ 35328 ≤ length (now lists) ⌝ }
+    requires { ⌜ pairBytes ≤ length (now lists) ⌝ }
 {
     let n = words::content(text);
     let words = &text[0..n];
