@@ -26,7 +26,9 @@ returns c =
     (counts (length v) v (omega arith), cut-short v (omega arith))
 
 returns-2 : tie.Need-returns-2
-returns-2 c = (counts (2 * payloadPlaces fibre) (c .before .args .pair .now) (omega arith), record { first = refl; second = refl })
+returns-2 c =
+    let v = c .before .args .pair .now in
+    (counts (2 * payloadPlaces fibre) v (omega arith), record { first = refl; second = refl })
 
 pub cut-spec : {M : Type 1} → statement M
 cut-spec = tie.close (tie.spec returns returns-2)
