@@ -43,7 +43,7 @@ use stream::{Columns, Stream};
 /// piece tests both lists; and those of a comparison alone.
 const WORDS: usize = 1000;
 const MANY_PIECES_WORDS: usize = 100;
-const BITWISE_WORDS: usize = 1;
+const BITWISE_WORDS: usize = 3;
 const FEW_WORDS: usize = 3;
 const RUNS: usize = 5;
 const DELIMITER: usize = 341;

@@ -18,7 +18,7 @@
 
 enum {
     THREADS = 8,
-    ROUNDS = 100,
+    ROUNDS = 500,
     BLOCK = 257, /* a data block */
     SENT = 2560,
     FIRST = 14592, /* the places of each list */

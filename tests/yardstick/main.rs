@@ -36,8 +36,8 @@ const LINE: [u64; 6] = [16, 1, 10, 2, 3, 4];
 const ORDERS: [(&str, &[u64]); 3] = [("encode", &ENCODE), ("word", &WORD), ("line", &LINE)];
 
 /// How many cases of each kind are tried.
-const FINE_EACH: usize = 8;
-const DAMAGED_EACH: usize = 42;
+const FINE_EACH: usize = 16;
+const DAMAGED_EACH: usize = 60;
 const REFUSED_EACH: usize = 16;
 
 /// All that must be reached, in the order in which it is printed.
