@@ -3,12 +3,12 @@
 ghost use mathlib.Core.Path.{_≡_};
 ghost use Prim.Native.Nat.{ℕ, _+_, _*_, _≤_};
 ghost use lib.ListN.{length};
-ghost use Rattle.rules.specs.Bits.{bit, need, zeros, run, placed, Adds};
+ghost use Rattle.rules.specs.Bits.{bit, need, zeros, run, placed, Packed, Adds};
 ghost use Rattle.rules.specs.Matrix.{places, checks, payloadPlaces, check};
 ghost use Rattle.rules.specs.Verdicts.{WordVerdict};
-ghost use Rattle.rules.specs.Asked.{PieceAsks};
+ghost use Rattle.rules.specs.Streams.{fresh};
 ghost use Rattle.rules.specs.Promises.{Completion, LineWritten, TailWritten, PieceTaken};
-ghost use Rattle.rules.specs.Coax.{coaxCode, coaxFormat, CoaxEncodeAsks, CoaxWordAsks};
+ghost use Rattle.rules.specs.Coax.{coaxCode, coaxNumber, coaxFormat, CoaxEncodeAsks, CoaxWordAsks};
 ghost use Rattle.rules.specs.Coax.{CoaxEncoded, CoaxCompleted, CoaxChecked, CoaxFinished};
 use rules::Answer;
 use rules::Cause;
@@ -118,7 +118,8 @@ pub fn check(code: CoaxCode, count: usize, word: &[u8]) -> Judgement
 // Adds a piece's bits, which stand at the places from `held` on, and returns how many bits are then held.
 fn feed(code: CoaxCode, sums: &mut [u8], held: usize, count: usize, bytes: &[u8]) -> usize
     requires { ⌜
-        (need (checks (coaxCode code)) ≤ length (now sums)) × PieceAsks (coaxFormat code) held count (now bytes)
+        (need (checks (coaxCode code)) ≤ length (now sums)) × (held + count ≤ payloadPlaces (coaxCode code))
+        × Packed count (now bytes)
         ⌝ }
     ensures { λ r. ⌜
         (r ≡ held + count)
@@ -130,12 +131,19 @@ fn feed(code: CoaxCode, sums: &mut [u8], held: usize, count: usize, bytes: &[u8]
     held + count
 }
 
+// A fresh stream of a code.
+pub fn begin(code: CoaxCode) -> Stream
+    ensures { λ r. ⌜ r ≡ fresh (coaxNumber code) ⌝ }
+{
+    stream::fresh(coax::number(code))
+}
+
 // Takes a piece of so many bits.
 pub fn piece(code: CoaxCode, stream: Stream, count: usize, bytes: &[u8]) -> Outcome
     ensures { λ r. ⌜ PieceTaken (coaxFormat code) count (now (bytes .entry)) stream r ⌝ }
 {
     let held = stream.held;
-    let refusal = refusals::piece_alone(coax::payload_places(code), held, count, bytes);
+    let refusal = refusals::piece_alone(stream, coax::limits(code), count, bytes);
     if refusal != 0 {
         return Outcome {
             answer: Answer::Refused(refusal),
@@ -147,6 +155,7 @@ pub fn piece(code: CoaxCode, stream: Stream, count: usize, bytes: &[u8]) -> Outc
     Outcome {
         answer: Answer::Done,
         stream: Stream {
+            number: stream.number,
             held: after,
             checks: checks,
         },
@@ -170,7 +179,7 @@ fn write_tail(code: CoaxCode, sums: &[u8], tail: &mut [u8])
 pub fn finish(code: CoaxCode, stream: Stream, tail: &mut [u8]) -> Outcome
     ensures { λ r. ⌜ CoaxFinished code stream (now (tail .entry)) r (now (tail .exit)) ⌝ }
 {
-    let refusal = refusals::coax::finish(code, stream.held, tail.len());
+    let refusal = refusals::coax::finish(code, stream, tail.len());
     if refusal != 0 {
         return Outcome {
             answer: Answer::Refused(refusal),
@@ -179,7 +188,7 @@ pub fn finish(code: CoaxCode, stream: Stream, tail: &mut [u8]) -> Outcome
     }
     let checks = stream.checks;
     write_tail(code, &checks, tail);
-    let next = stream::begin();
+    let next = begin(code);
     Outcome {
         answer: Answer::Done,
         stream: next,

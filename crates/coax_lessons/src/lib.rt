@@ -1,4 +1,4 @@
-// The lessons of W8 of paper 02, run through the libraries for each coax code. What a lesson expects comes from the
+// The lessons of W8 and W9 of paper 02, run through the libraries for each coax code. What a lesson expects comes from the
 // tables of source document 001.
 use codes::Code;
 use lessons::expected::is_check;
@@ -57,6 +57,7 @@ fn is_zero(code: CoaxCode) -> bool {
 // The finish of a stream that holds so many bits is refused by 1.
 fn is_finish_refused(code: CoaxCode, count: usize) -> bool {
     let held = Stream {
+        number: rules::coax::number(code),
         held: count,
         checks: [0u8; rules::STREAM_BYTES],
     };
@@ -84,6 +85,19 @@ fn is_bad_count(code: CoaxCode, count: usize) -> bool {
     is_finish_refused(code, count)
 }
 
+// A piece and the finish refuse a fresh stream of another code by 12.
+fn is_other_code(code: CoaxCode, other: Code) -> bool {
+    let outcome = coax::piece(code, codes::begin(other), 0, b"");
+    let answer = outcome.answer;
+    if !is_refused(answer, 12) {
+        return false;
+    }
+    let mut tail = [0u8; rules::coax::PARITY_BYTES];
+    let finished = coax::finish(code, codes::begin(other), &mut tail);
+    let told = finished.answer;
+    is_refused(told, 12)
+}
+
 fn long(tally: Tally) -> Tally {
     let first = [267usize, 446, 946, 1547];
     let parity = [217usize, 614];
@@ -93,7 +107,8 @@ fn long(tally: Tally) -> Tally {
     let b = lesson(a, is_place(code, 14400, &parity), b"16200 place 14400");
     let c = lesson(b, is_place(code, 16199, &last), b"16200 place 16199");
     let d = lesson(c, is_zero(code), b"16200 all 0");
-    lesson(d, is_bad_count(code, 14399), b"16200 K 14399")
+    let e = lesson(d, is_bad_count(code, 14399), b"16200 K 14399");
+    lesson(e, is_other_code(code, Code::Fibre), b"16200 fibre stream")
 }
 
 fn short(tally: Tally) -> Tally {
@@ -105,7 +120,9 @@ fn short(tally: Tally) -> Tally {
     let b = lesson(a, is_place(code, 5040, &parity), b"5940 place 5040");
     let c = lesson(b, is_place(code, 5939, &last), b"5940 place 5939");
     let d = lesson(c, is_zero(code), b"5940 all 0");
-    lesson(d, is_bad_count(code, 5039), b"5940 K 5039")
+    let e = lesson(d, is_bad_count(code, 5039), b"5940 K 5039");
+    let long = Code::Coax(CoaxCode::Long);
+    lesson(e, is_other_code(code, long), b"5940 16200 stream")
 }
 
 // All lessons, a line each.

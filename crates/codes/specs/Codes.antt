@@ -3,6 +3,7 @@
 --
 --   nameOf k           how CODE names the coax code k: by the bits of its words
 --   NamedBy s n        what the name s names: the code of that name, or nothing where no code has it
+--   numberOf c         the number by which a stream says that it serves the code c
 --   firstIn v          the first list of a pair v, which is both lists joined: its first 29,184 bytes
 --   secondIn v         the second list: the rest, 6,144 bytes where the pair is as long as it has to be
 --   pairBytes          the bytes of both lists: 35,328
@@ -24,10 +25,10 @@ use lib.ListN.{take, drop}
 use Rattle.rules.specs.Matrix.{checks, payloadPlaces}
 use Rattle.rules.specs.Table.{fibre}
 use Rattle.rules.specs.Lists.{Listed, Plain}
-use Rattle.rules.specs.Formats.{Format, fibreFormat}
+use Rattle.rules.specs.Formats.{Format, fibreFormat, fibreKept}
 use Rattle.rules.specs.Refusals.{BadList}
 use Rattle.rules.specs.Promises.{Completed, Encoded, PieceTaken, Finished}
-use Rattle.rules.specs.Coax.{coaxFormat, CoaxEncoded, CoaxCompleted, CoaxFinished}
+use Rattle.rules.specs.Coax.{coaxNumber, coaxFormat, CoaxEncoded, CoaxCompleted, CoaxFinished}
 use Rattle.rules.specs.declared.Answer.{Answer}
 use Rattle.rules.specs.declared.Stream.{Stream}
 use Rattle.rules.specs.declared.Outcome.{Outcome}
@@ -48,6 +49,10 @@ nameOf Short = text "5940"
 abbrev pub NamedBy : List ℕ → Named → Type 0
 NamedBy s (Is k) = s ≡ nameOf k
 NamedBy s Nothing = (k : CoaxCode) → s ≡ nameOf k → ⊥
+
+abbrev pub numberOf : Code → ℕ
+numberOf Fibre = fibreKept .number
+numberOf (Coax k) = coaxNumber k
 
 abbrev pub firstIn : List ℕ → List ℕ
 firstIn v = take (2 * payloadPlaces fibre) v

@@ -3,9 +3,11 @@
 // fibre code as one slice; a coax code does not read it.
 pub mod pair;
 
+ghost use mathlib.Core.Path.{_≡_};
 ghost use Rattle.io.specs.Counts.{Counts};
 ghost use Rattle.rules.specs.Promises.{WordChecked, LineChecked};
-ghost use Rattle.codes.specs.Codes.{NamedBy, fibreIn, EncodedBy, CompletedBy, TakenBy, FinishedBy};
+ghost use Rattle.rules.specs.Streams.{fresh};
+ghost use Rattle.codes.specs.Codes.{NamedBy, numberOf, fibreIn, EncodedBy, CompletedBy, TakenBy, FinishedBy};
 use console::numbers;
 use console::numbers::Number;
 use rules::Answer;
@@ -132,6 +134,16 @@ pub fn check_line(lists: &[u8], bits: usize, line: &[u8], delimiter: usize) -> J
 {
     let at = pair::cut(lists);
     line::check(bits, line, delimiter, &lists[..at], &lists[at..])
+}
+
+// A fresh stream.
+pub fn begin(code: Code) -> Stream
+    ensures { λ r. ⌜ r ≡ fresh (numberOf code) ⌝ }
+{
+    match code {
+        Code::Fibre => stream::begin(),
+        Code::Coax(coax) => coax::begin(coax),
+    }
 }
 
 // Takes a piece of a stream.

@@ -74,8 +74,11 @@ fn number_of(answer: Answer) -> usize
     }
 }
 
-// Whether two streams hold the same count of bits and the same 384 bytes of running checks.
+// Whether two streams serve the same code, and hold the same count of bits and the same 384 bytes of running checks.
 fn same_stream(one: Stream, other: Stream) -> bool {
+    if one.number != other.number {
+        return false;
+    }
     if one.held != other.held {
         return false;
     }
@@ -308,6 +311,7 @@ fn try_full(first: &[u8], second: &[u8]) -> u64
     ensures { λ r. ⌜ r ≤ 2 ⌝ }
 {
     let stream = Stream {
+        number: fibre::NUMBER,
         held: fibre::PAYLOAD_MOST,
         checks: [BLANK; rules::STREAM_BYTES],
     };

@@ -5,7 +5,7 @@ use console::say;
 use console::say::TROUBLE;
 
 pub fn version() -> u8 {
-    say::text(b"birdovesta 3\n")
+    say::text(b"birdovesta 4\n")
 }
 
 fn all() -> u8 {
@@ -205,8 +205,10 @@ fn refusal(number: usize) -> u8 {
         ),
         7 => say::text(
             b"refusal 7\n\
-            the stream claims above 14392 bits\n\
-            coax: above 14400 or 5040\n\
+            the stream's state is not allowed\n\
+            It claims above 14392 bits;\n\
+            coax: above 14400 or 5040,\n\
+            or a 1 is past the checks in use.\n\
             Begin a new stream.\n",
         ),
         8 => say::text(
@@ -215,16 +217,20 @@ fn refusal(number: usize) -> u8 {
         10 => say::text(
             b"refusal 10\nbits is not a multiple of 257\nGive whole data blocks of 257 bits.\n",
         ),
+        12 => say::text(
+            b"refusal 12\nthe stream serves another code\nGive it to the calls of its own code.\n",
+        ),
         16 => say::text(
             b"refusal 16\na list is no reordering of its places\nName each place once; lists check FILE.\n",
         ),
+        17 => say::text(b"refusal 17\nthe stream is not 400 bytes\nLend all 400 bytes from C.\n"),
         _ => TROUBLE,
     }
 }
 
 fn refusals() -> u8 {
     let mut status = 0;
-    for number in 0..17 {
+    for number in 0..18 {
         let said = refusal(number);
         if said != TROUBLE {
             status = say::worse(status, said);
@@ -238,7 +244,7 @@ fn of_refusals() -> u8 {
     if os::arg_count() == 3 {
         return refusals();
     }
-    let Number::Is(number) = numbers::argument(3, b"NUMBER", b"1 to 16") else {
+    let Number::Is(number) = numbers::argument(3, b"NUMBER", b"1 to 17") else {
         return TROUBLE;
     };
     let said = refusal(number);

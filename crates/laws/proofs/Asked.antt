@@ -11,11 +11,12 @@ use native.Mathlib.Decide.{decLt}
 use native.Mathlib.Omega.{arith}
 use Rattle.rules.specs.Bits.{Packed}
 use Rattle.rules.specs.Formats.{Format}
-use Rattle.rules.specs.Refusals.{tells, badCount, brokenBlock, wrongBytes, unusedSet}
+use Rattle.rules.specs.Refusals.{tells, badCount, brokenBlock, wrongBytes, unusedSet, otherCode, badState}
 use Rattle.rules.specs.Refusals.{encodeOrder, pieceOrder, finishOrder, completeOrder, wordOrder, lineOrder}
 use Rattle.rules.specs.Coax.{coaxEncodeOrder, coaxWordOrder, coaxFinishOrder}
 use Rattle.rules.specs.Coax.{Counted, CoaxEncodeAsks, CoaxWordAsks, CoaxFinishAsks}
-use Rattle.rules.specs.Asked.{WholeBlocks, EncodeAsks, CompleteAsks, PieceAsks, FinishAsks, WordAsks, LineAsks}
+use Rattle.rules.specs.Asked.{WholeBlocks, Serves, EncodeAsks, CompleteAsks, PieceAsks, FinishAsks, WordAsks, LineAsks}
+use Rattle.rules.specs.declared.Stream.{Stream}
 use Rattle.laws.proofs.Told.{not-refused, not-different}
 use Rattle.laws.proofs.Lent.{lent-not}
 
@@ -39,6 +40,13 @@ module _ (f : Format) where
   whole-blocks bad broken =
       let c = counted bad in
       record { least = c .least; most = c .most; whole = not-different _ _ broken }
+
+  serves : {t : Stream} → (otherCode f t .applies → ⊥) → (badState f t .applies → ⊥) → Serves f t
+  serves {t} other bad = record {
+    number = not-different _ _ other;
+    held = not-above (f .most) (t .held) (λ l. bad (inl l));
+    unused = λ s. bad (inr s);
+  }
 
   module _ {r : ℕ} (e : r ≡ 0) where
     pub encode-asked : (K : ℕ) (u : List ℕ) (d room : ℕ) → tells (encodeOrder f K u d room) r → EncodeAsks f K u d room
@@ -64,18 +72,24 @@ module _ (f : Format) where
           shortened = λ n s. not 8 (n, s);
         }
 
-    pub piece-asked : (held b : ℕ) (s : List ℕ) → tells (pieceOrder f held b s) r → PieceAsks f held b s
-    piece-asked held b s t =
-        let lent = lent-not f _ e t tt in
-        let not = lent .1 in
-        record { lists = lent .0; piece = packed (not 2) (not 3); most = not-above (f .most) _ (not 6) }
-
-    pub finish-asked : (held d room : ℕ) → tells (finishOrder f held d room) r → FinishAsks f held d room
-    finish-asked held d room t =
-        let lent = lent-not f _ e t tt in
+    pub piece-asked : (t : Stream) (b : ℕ) (s : List ℕ) → tells (pieceOrder f t b s) r → PieceAsks f t b s
+    piece-asked t b s h =
+        let lent = lent-not f _ e h tt in
         let not = lent .1 in
         record {
           lists = lent .0;
+          stream = serves (not 12) (not 7);
+          piece = packed (not 2) (not 3);
+          most = not-above (f .most) _ (not 6);
+        }
+
+    pub finish-asked : (t : Stream) (d room : ℕ) → tells (finishOrder f t d room) r → FinishAsks f t d room
+    finish-asked t d room h =
+        let lent = lent-not f _ e h tt in
+        let not = lent .1 in
+        record {
+          lists = lent .0;
+          stream = serves (not 12) (not 7);
           count = whole-blocks (not 1) (not 10);
           delimiter = not-above _ d (not 4);
           fits = not-above room _ (not 5);
@@ -109,7 +123,7 @@ module _ (f : Format) where
         let not = not-refused (coaxWordOrder f K w) tt e t in
         record { count = counted (not 1); word = packed (not 2) (not 3) }
 
-    pub coax-finish-asked : (held room : ℕ) → tells (coaxFinishOrder f held room) r → CoaxFinishAsks f held room
-    coax-finish-asked held room t =
-        let not = not-refused (coaxFinishOrder f held room) tt e t in
-        record { count = counted (not 1); fits = not-above room _ (not 5) }
+    pub coax-finish-asked : (t : Stream) (room : ℕ) → tells (coaxFinishOrder f t room) r → CoaxFinishAsks f t room
+    coax-finish-asked t room h =
+        let not = not-refused (coaxFinishOrder f t room) tt e h in
+        record { stream = serves (not 12) (not 7); count = counted (not 1); fits = not-above room _ (not 5) }

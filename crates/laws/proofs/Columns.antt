@@ -9,24 +9,27 @@
 --   turn-fits      the cast to the turn loses nothing
 --   turn-proper    and the turn of a proper entry is below the block size
 --   check-column   a check of block j of a word alone is that column's term
+--   check-past     a check past the last row is 0
 use borrow.Author.Tests.{ltb-true}
 use mathlib.Core.Path.{_≡_, refl, ap, _∙_}
 use mathlib.Core.Bool.{true, false}
-use Prim.Native.Nat.{ℕ, _+_, _-_, _*_, _/_, _%_, _<_}
-use native.Mathlib.Nat.{mod-lt, not-suc-le-zero}
+use mathlib.Core.List.{[]}
+use Prim.Native.Nat.{ℕ, _+_, _-_, _*_, _/_, _%_, _≤_, _<_}
+use native.Mathlib.Nat.{mod-lt, not-suc-le-zero, mul-comm, zero-mul, le-div-iff-mul-le}
 use native.Mathlib.Decide.{decLt}
 use native.Mathlib.Omega.{arith}
 use lib.Dec.{T, ltb→lt, lit<}
 use lib.IntN.{ℤ, pos, negsuc, natAbs}
+use lib.ListN.{length, getD, List·getD-eq-default}
 use lib.Signed.{ltZ, nonNeg}
 use mir.Facts.{toZ-ofZ, fits-natAbs}
 use mir.Syntax.{w16, w64}
 use mir.Val.{SFits, Fits, toZ, ofZ}
 use Rattle.rules.specs.Bits.{zeros, placed}
-use Rattle.rules.specs.Matrix.{Code, entry, check}
+use Rattle.rules.specs.Matrix.{Code, places, checks, entry, one, check}
 use Rattle.rules.specs.Terms.{proper, spot, through, term}
-use Rattle.rules.proofs.Sums.{total-one}
-use Rattle.rules.proofs.Checks.{place-below, check-columns}
+use Rattle.rules.proofs.Sums.{total-none, total-one}
+use Rattle.rules.proofs.Checks.{block-some, block-below, place-below, check-columns}
 use Rattle.laws.proofs.Runs.{placed-below, placed-in, placed-above}
 
 pub spot-same : (z : ℕ) → 0 < z → (a : ℤ) (f g : ℕ → ℕ) (r : ℕ) → ((t : ℕ) → t < z → f t ≡ g t)
@@ -112,3 +115,17 @@ module _ (c : Code) (h : 0 < c .size) (w : ℕ → ℕ) (j : ℕ) where
       (total-one (c .columns) (term c n blockAlone) j l
       (λ k m d. term-zeros c h n blockAlone k (λ t q. elsewhere k t q d))
       ∙ term-same c h n blockAlone w j here)
+
+-- where each line of the table has an entry for each block row, and no more
+module _ (c : Code) (lines : (j : ℕ) → j < c .columns → length (getD (c .table) j []) ≡ c .rows) where
+  pub check-past : (w : ℕ → ℕ) (n : ℕ) → checks c ≤ n → check c n w ≡ 0
+  unfolding entry one check
+  check-past w n h = ap (λ (s : ℕ). s % 2) (total-none (places c) (λ p. one c n p * w p) none)
+    where
+      none : (p : ℕ) → p < places c → one c n p * w p ≡ 0
+      none p l =
+          let some = block-some (c .size) (c .columns) p l in
+          let row : c .rows ≤ n / c .size = le-div-iff-mul-le some .1 (rw (mul-comm (c .rows) (c .size)) h) in
+          let long = lines (p / c .size) (block-below (c .size) (c .columns) p l) in
+          rw (List·getD-eq-default (getD (c .table) (p / c .size) []) (negsuc 0) {n = n / c .size} (omega arith))
+          (zero-mul (w p))

@@ -2,23 +2,25 @@
 -- does, where these lists are reorderings. Any format, with lists or without.
 --
 --   not-bad           a list that is one has no fault
---   lent-numbered     every number of the order is above 0, if every number of the rest is
+--   lent-passes       every number of the order passes a test, if 16 and every number of the rest does
+--   lent-numbered     so every number of the order is above 0, if every number of the rest is
 --   lent-left         where none is told, the lists fit, and none of the rest is told
 --   lent-not          so that no refusal of the rest applies, wherever it stands
 --   lent-told         where the lists fit, what the rest tells is told
 --   lent-rest         and what is told, the rest tells
-use mathlib.Core.Path.{_≡_}
+use mathlib.Core.Path.{_≡_, refl}
+use mathlib.Core.Bool.{Bool, true}
 use mathlib.Core.Logic.{inl, inr, ⊎-elim}
 use mathlib.Core.List.{List, _++_}
 use Prim.Native.Nat.{ℕ}
 use native.Mathlib.Omega.{arith}
-use lib.Dec.{T}
+use lib.Dec.{T, ltb}
 use Rattle.rules.specs.Matrix.{checks, payloadPlaces}
 use Rattle.rules.specs.Lists.{Listed, Lists, none, pair, AreListed}
 use Rattle.rules.specs.Formats.{Format}
 use Rattle.rules.specs.Refusals.{Refusal, tells, BadList, badLists, ofLists}
 use Rattle.rules.specs.Asked.{ListsFit}
-use Rattle.laws.proofs.Told.{refusal-of, numbered, not-refused}
+use Rattle.laws.proofs.Told.{refusal-of, numbersPass, numbered, not-refused}
 use Rattle.laws.proofs.Reorderings.{listed-sound}
 
 listed : (n : ℕ) (l : List ℕ) → (BadList n l → ⊥) → Listed n l
@@ -29,9 +31,9 @@ not-bad n l h = ⊎-elim (λ d. d (h .bytes)) (λ d. d (h .reorders))
 
 -- lists of n and of m places, and the order o after their refusal
 module _ (n m : ℕ) (o : List Refusal) where
-  numbered-by : (v : Lists) → T (numbered o) → T (numbered (badLists n m v ++ o))
-  numbered-by none h = h
-  numbered-by (pair a b) h = h
+  passes-by : (g : ℕ → Bool) → g 16 ≡ true → (v : Lists) → T (numbersPass g o) → T (numbersPass g (badLists n m v ++ o))
+  passes-by g s none h = h
+  passes-by g s (pair a b) h = rw s h
 
   left-by : (v : Lists) {r : ℕ} → r ≡ 0 → tells (badLists n m v ++ o) r → AreListed n m v × tells o r
   left-by none e t = (tt, t)
@@ -49,8 +51,11 @@ module _ (n m : ℕ) (o : List Refusal) where
       ⊎-elim (λ x. absurd (⊎-elim (not-bad n a (fit .0)) (not-bad m b (fit .1)) (x .0))) (λ x. x .1) t
 
 module _ (f : Format) (o : List Refusal) where
+  pub lent-passes : (g : ℕ → Bool) → g 16 ≡ true → T (numbersPass g o) → T (numbersPass g (ofLists f ++ o))
+  lent-passes g s = passes-by (payloadPlaces (f .code)) (checks (f .code)) o g s (f .lists)
+
   pub lent-numbered : T (numbered o) → T (numbered (ofLists f ++ o))
-  lent-numbered = numbered-by (payloadPlaces (f .code)) (checks (f .code)) o (f .lists)
+  lent-numbered = lent-passes (ltb 0) refl
 
   pub lent-left : {r : ℕ} → r ≡ 0 → tells (ofLists f ++ o) r → ListsFit f × tells o r
   lent-left = left-by (payloadPlaces (f .code)) (checks (f .code)) o (f .lists)

@@ -13,7 +13,7 @@ pub fn payload_place(code: Code, lists: &[u8], bits: usize, place: usize, rows: 
     let mut payload = [0u8; fibre::PAYLOAD_BYTES];
     set(&mut payload, place);
     let n = codes::bytes_of(bits, &payload);
-    let outcome = codes::piece(code, lists, stream::begin(), bits, &payload[..n]);
+    let outcome = codes::piece(code, lists, codes::begin(code), bits, &payload[..n]);
     let answer = outcome.answer;
     if !is_done(answer) {
         return false;
@@ -30,7 +30,9 @@ pub fn payload_place(code: Code, lists: &[u8], bits: usize, place: usize, rows: 
 pub fn parity_place(code: Code, lists: &[u8], bits: usize, place: usize, rows: &[usize]) -> bool {
     let mut checks = [0u8; rules::STREAM_BYTES];
     set_all(&mut checks, rows);
+    let fresh = codes::begin(code);
     let held = Stream {
+        number: fresh.number,
         held: bits,
         checks: checks,
     };

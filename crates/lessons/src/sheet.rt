@@ -15,6 +15,7 @@ use crate::tally::Tally;
 use codes::Code;
 use codes::pair;
 use rules::Answer;
+use rules::CoaxCode;
 use rules::Judgement;
 use rules::Stream;
 use rules::fibre;
@@ -75,6 +76,7 @@ fn no_lists() -> bool {
         return false;
     }
     let claimed = Stream {
+        number: fibre::NUMBER,
         held: 14393,
         checks: [0u8; rules::STREAM_BYTES],
     };
@@ -120,7 +122,12 @@ fn fed(lists: &[u8], stream: Stream, count: usize, piece: &[u8]) -> Stream {
 // What a stream with 14,392 bits held answers to a piece.
 fn full_then(lists: &[u8], count: usize, piece: &[u8]) -> Answer {
     let payload = [255u8; 1799];
-    let full = fed(lists, stream::begin(), fibre::PAYLOAD_MOST, &payload);
+    let full = fed(
+        lists,
+        codes::begin(Code::Fibre),
+        fibre::PAYLOAD_MOST,
+        &payload,
+    );
     let last = codes::piece(Code::Fibre, lists, full, count, piece);
     let answer = last.answer;
     answer
@@ -196,7 +203,7 @@ fn lines(tally: Tally, lists: &[u8]) -> Tally {
 fn streams(tally: Tally, lists: &[u8]) -> Tally {
     let none = [0u8; 0];
     let one = [0u8; 1];
-    let held = fed(lists, stream::begin(), 1, &one);
+    let held = fed(lists, codes::begin(Code::Fibre), 1, &one);
     let a = lesson(
         tally,
         is_done(full_then(lists, 0, &none)),
@@ -209,13 +216,19 @@ fn streams(tally: Tally, lists: &[u8]) -> Tally {
     );
     let c = lesson(
         b,
-        is_refused(finish(lists, stream::begin(), 1024), 1),
+        is_refused(finish(lists, codes::begin(Code::Fibre), 1024), 1),
         b"fresh finish, delimiter 1024",
     );
-    lesson(
+    let d = lesson(
         c,
         is_refused(finish(lists, held, 1024), 10),
         b"1 held, finish, delimiter 1024",
+    );
+    let coax = codes::begin(Code::Coax(CoaxCode::Long));
+    lesson(
+        d,
+        is_refused(finish(lists, coax, 1024), 12),
+        b"coax stream, finish as fibre",
     )
 }
 

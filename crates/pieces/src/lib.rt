@@ -130,7 +130,7 @@ fn feed(code: Code, lists: &[u8], feeding: Feeding, piece: usize, i: usize) -> F
 fn feed_all(code: Code, lists: &[u8], i: usize, pieces: usize) -> Feeding
     requires { ⌜ i + 2 * pieces < 2 ^ 64 ⌝ }
 {
-    let stream = stream::begin();
+    let stream = codes::begin(code);
     let mut feeding = Feeding {
         stream: stream,
         refused: 0,
@@ -177,6 +177,28 @@ fn say_refused(count: usize) -> u8 {
     say::answer(Said::PiecesRefused(count))
 }
 
+// Feeds the pieces, from argument i on, by the lists, and finishes into OUT.
+fn feed_by(
+    code: Code,
+    lists: &[u8],
+    delimiter: usize,
+    known: Known,
+    path: &[u8],
+    i: usize,
+    pieces: usize,
+) -> u8
+    requires { ⌜ (i + 2 * pieces < 2 ^ 64) × (length (now path) ≤ 4091) ⌝ }
+{
+    let feeding = feed_all(code, lists, i, pieces);
+    if !feeding.fine {
+        return TROUBLE;
+    }
+    let later = feeding.stream;
+    let last = finish(code, lists, later, delimiter, known, path);
+    let refused = say_refused(feeding.refused);
+    say::worse(feeding.status, say::worse(last, refused))
+}
+
 // Feeds so many pieces and finishes. OUT is argument i, and the pieces come after it.
 fn feed_and_finish(code: Code, delimiter: usize, i: usize, pieces: usize) -> u8
     requires { ⌜ i + 1 + 2 * pieces < 2 ^ 64 ⌝ }
@@ -196,21 +218,15 @@ fn feed_and_finish(code: Code, delimiter: usize, i: usize, pieces: usize) -> u8
         return TROUBLE;
     }
     let n = lent.size;
-    let feeding = feed_all(code, &lists[..n], i + 1, pieces);
-    if !feeding.fine {
-        return TROUBLE;
-    }
-    let later = feeding.stream;
-    let last = finish(
+    feed_by(
         code,
         &lists[..n],
-        later,
         delimiter,
         output.known,
         &path[..to],
-    );
-    let refused = say_refused(feeding.refused);
-    say::worse(feeding.status, say::worse(last, refused))
+        i + 1,
+        pieces,
+    )
 }
 
 // stream LISTS DELIMITER OUT [BITS PIECE]...

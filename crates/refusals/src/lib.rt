@@ -1,4 +1,4 @@
-// Paper 01, 'Refusal numbers', and W2 and W4 of paper 02.
+// Paper 01, 'Refusal numbers', and W2, W4 and W9 of paper 02.
 // A test for each kind of refusal, which answers its number or 0, and each operation's order of tests. A test is given
 // its limits. None needs an earlier one: where that tells a refusal, a later test may answer anything, and no more.
 // Only refusal 8 is tested after the others: its places are seen through the first list, which has to be one.
@@ -8,17 +8,21 @@ pub mod coax;
 ghost use mathlib.Core.Path.{_≡_};
 ghost use mathlib.Core.Logic.{_⊎_};
 ghost use mathlib.Core.List.{[], _∷_};
-ghost use Prim.Native.Nat.{ℕ, _+_, _≤_, _<_};
+ghost use Prim.Native.Nat.{ℕ, _+_, _*_, _≤_, _<_};
 ghost use lib.ListN.{length};
-ghost use Rattle.rules.specs.Bits.{need};
+ghost use Rattle.rules.specs.Bits.{need, UnusedSet};
 ghost use Rattle.rules.specs.Lists.{Listed};
 ghost use Rattle.rules.specs.Matrix.{places, checks, payloadPlaces};
 ghost use Rattle.rules.specs.Table.{fibre};
 ghost use Rattle.rules.specs.Formats.{Format, fibreFormat};
 ghost use Rattle.rules.specs.Refusals.{refusal, tells, unusedSet, someShortened, ofLists, ofPiece};
 ghost use Rattle.rules.specs.Refusals.{encodeOrder, pieceOrder, finishOrder, completeOrder, wordOrder, lineOrder};
+ghost use Rattle.rules.specs.Streams.{streamBytes};
 ghost use Rattle.rules.specs.Terms.{FirstTold, byFirst};
+ghost use Rattle.rules.specs.Terms as terms;
 ghost use Rattle.lists.specs.Picked.{Tested};
+use rules::Limits;
+use rules::Stream;
 use rules::fibre;
 
 // The first of an order's numbers that is not 0; 0 where all are.
@@ -34,7 +38,7 @@ fn first_told(numbers: &[usize]) -> usize
     0
 }
 
-// A value that is above a limit: refusals 4, 5 and 7.
+// A value that is above a limit: refusals 4 and 5.
 fn above(value: usize, limit: usize, number: usize) -> usize
     ensures { λ r. ⌜ tells (refusal number (limit < value) ∷ []) r ⌝ }
 {
@@ -44,7 +48,7 @@ fn above(value: usize, limit: usize, number: usize) -> usize
     0
 }
 
-// A value that is another than it has to be: refusals 2 and 10.
+// A value that is another than it has to be: refusals 2, 10 and 12.
 fn differs(value: usize, other: usize, number: usize) -> usize
     ensures { λ r. ⌜ tells (refusal number (value ≡ other → ⊥) ∷ []) r ⌝ }
 {
@@ -91,6 +95,23 @@ fn above_with(held: usize, count: usize, most: usize) -> usize
     }
     if most - held < count {
         return 6;
+    }
+    0
+}
+
+// 7: a stream claims more bits than the most, or a 1 stands past the checks in use.
+fn bad_state(stream: Stream, limits: Limits) -> usize
+    requires { ⌜ limits .used ≤ 8 * streamBytes ⌝ }
+    ensures { λ r. ⌜
+        tells (refusal 7 ((limits .most < stream .held) ⊎ UnusedSet (stream .checks) (limits .used)) ∷ []) r
+        ⌝ }
+{
+    if limits.most < stream.held {
+        return 7;
+    }
+    let checks = stream.checks;
+    if bits::first_set(&checks, limits.used, rules::STREAM_BITS) < rules::STREAM_BITS {
+        return 7;
     }
     0
 }
@@ -175,43 +196,49 @@ pub fn encode(
     )
 }
 
-// What a piece asks of any code, by its most payload bits: 7, 2, 3, 6.
-pub fn piece_alone(most: usize, held: usize, count: usize, bytes: &[u8]) -> usize
-    ensures { λ r. ⌜ ((f : Format) → f .most ≡ most → tells (ofPiece f held count (now (bytes .entry))) r) ⌝ }
+// What a piece asks of any code, by its limits: 12, 7, 2, 3, 6.
+pub fn piece_alone(stream: Stream, limits: Limits, count: usize, bytes: &[u8]) -> usize
+    requires { ⌜ limits .used ≤ 8 * streamBytes ⌝ }
+    ensures { λ r. ⌜
+        ((f : Format) → limits ≡ terms.limits f → tells (ofPiece f stream count (now (bytes .entry))) r)
+        ⌝ }
 {
     first_told(
         &[
-            above(held, most, 7),
+            differs(stream.number, limits.number, 12),
+            bad_state(stream, limits),
             differs(bytes.len(), bits::needed(count), 2),
             unused_set(bytes, count),
-            above_with(held, count, most),
+            above_with(stream.held, count, limits.most),
         ],
     )
 }
 
-// Piece: 16, 7, 2, 3, 6.
-pub fn piece(held: usize, count: usize, bytes: &[u8], first: &[u8], second: &[u8]) -> usize
+// Piece: 16, 12, 7, 2, 3, 6.
+pub fn piece(stream: Stream, count: usize, bytes: &[u8], first: &[u8], second: &[u8]) -> usize
     ensures { λ r. ⌜
-        tells (pieceOrder (fibreFormat (now (first .entry)) (now (second .entry))) held count (now (bytes .entry))) r
+        tells (pieceOrder (fibreFormat (now (first .entry)) (now (second .entry))) stream count (now (bytes .entry))) r
         ⌝ }
 {
     let told = bad_lists(first, second);
     if told != 0 {
         return told;
     }
-    piece_alone(fibre::PAYLOAD_MOST, held, count, bytes)
+    piece_alone(stream, fibre::limits(), count, bytes)
 }
 
-// Finish: 16, 7, 1, 10, 4, 5.
-pub fn finish(held: usize, delimiter: usize, first: &[u8], second: &[u8], room: usize) -> usize
+// Finish: 16, 12, 7, 1, 10, 4, 5.
+pub fn finish(stream: Stream, delimiter: usize, first: &[u8], second: &[u8], room: usize) -> usize
     ensures { λ r. ⌜
-        tells (finishOrder (fibreFormat (now (first .entry)) (now (second .entry))) held delimiter room) r
+        tells (finishOrder (fibreFormat (now (first .entry)) (now (second .entry))) stream delimiter room) r
         ⌝ }
 {
+    let held = stream.held;
     first_told(
         &[
             bad_lists(first, second),
-            above(held, fibre::PAYLOAD_MOST, 7),
+            differs(stream.number, fibre::NUMBER, 12),
+            bad_state(stream, fibre::limits()),
             outside(held, fibre::PAYLOAD_LEAST, fibre::PAYLOAD_MOST),
             differs(held % fibre::DATA_BLOCK, 0, 10),
             above(delimiter, fibre::DELIMITER_MOST, 4),

@@ -1,12 +1,13 @@
--- W8 of paper 02: the two coax codes, by Tables 101-3 and 101-4 of source document 001. Nothing is shortened and
+-- W8 and W9 of paper 02: the two coax codes, by Tables 101-3 and 101-4 of source document 001. Nothing is shortened and
 -- nothing punctured, there are no lists and no delimiter, and a payload fills the payload places.
 --
 --   coaxCode k               the code k: blocks of 360 or of 180, five block rows, 45 or 33 block columns
 --                            (coaxSize, coaxColumns), and its table's lines (coaxLines)
---   coaxFormat k             its format: payloads of exactly the payload places, 14,400 or 5,040; all parity is sent
+--   coaxFormat k             its format: number 2 or 3 (coaxNumber); payloads of exactly the payload places, 14,400 or
+--                            5,040; all parity is sent
 --   coaxEncodeOrder f K u m  the order of encode, to m bytes
 --   coaxWordOrder f K w      of complete and of the check
---   coaxFinishOrder f h m    of a stream's finish, to m bytes; that of a piece is pieceOrder
+--   coaxFinishOrder f t m    of a stream's finish, to m bytes; that of a piece is pieceOrder
 --   Counted f K              K is from the least to the most; of a coax code these are one number
 --   Coax..Asks               the same orders read the other way round: what each operation asks; a piece, PieceAsks
 --   CoaxEncoded k ..         encode: the word is the payload, then all of its parity
@@ -16,7 +17,7 @@
 --
 -- Believe this file beside the paper; nothing here is proved.
 use mathlib.Core.Path.{_≡_}
-use mathlib.Core.List.{List, [], _∷_}
+use mathlib.Core.List.{List, [], _∷_, _++_}
 use Prim.Native.Nat.{ℕ, _≤_}
 use lib.IntN.{ℤ}
 use lib.ListN.{length}
@@ -28,7 +29,8 @@ use Rattle.rules.specs.Formats.{Format}
 use Rattle.rules.specs.Words.{lineBits, tailBits}
 use Rattle.rules.specs.Verdicts.{WordVerdict}
 use Rattle.rules.specs.Streams.{fresh}
-use Rattle.rules.specs.Refusals.{Refusal, badCount, wrongBytes, unusedSet, noRoom, tooMany}
+use Rattle.rules.specs.Refusals.{Refusal, badCount, wrongBytes, unusedSet, noRoom, ofStream}
+use Rattle.rules.specs.Asked.{Serves}
 use Rattle.rules.specs.Promises.{Promise, Checked, Completion, LineWritten, TailWritten}
 use Rattle.rules.specs.declared.Answer.{Answer}
 use Rattle.rules.specs.declared.Judgement.{Judgement}
@@ -52,10 +54,15 @@ coaxLines Short = shortLines
 abbrev pub coaxCode : CoaxCode → Code
 coaxCode k = record { size = coaxSize k; rows = 5; columns = coaxColumns k; table = coaxLines k }
 
+abbrev pub coaxNumber : CoaxCode → ℕ
+coaxNumber Long = 2
+coaxNumber Short = 3
+
 abbrev pub coaxFormat : CoaxCode → Format
 coaxFormat k =
     record {
       code = coaxCode k;
+      number = coaxNumber k;
       first = λ t. t;
       second = λ t. t;
       lists = none;
@@ -74,9 +81,9 @@ coaxEncodeOrder f K u room = badCount f K ∷ wrongBytes u K ∷ noRoom room (li
 abbrev pub coaxWordOrder : Format → ℕ → List ℕ → List Refusal
 coaxWordOrder f K w = badCount f K ∷ wrongBytes w (places (f .code)) ∷ unusedSet w (places (f .code)) ∷ []
 
--- finish: 7, 1, 5
-abbrev pub coaxFinishOrder : Format → ℕ → ℕ → List Refusal
-coaxFinishOrder f held room = tooMany f held ∷ badCount f held ∷ noRoom room (tailBits f) ∷ []
+-- finish: 12, 7, 1, 5
+abbrev pub coaxFinishOrder : Format → Stream → ℕ → List Refusal
+coaxFinishOrder f t room = ofStream f t ++ badCount f (t .held) ∷ noRoom room (tailBits f) ∷ []
 
 pub record Counted (f : Format) (K : ℕ) : Type 0 where
   pub least : f .least ≤ K
@@ -91,8 +98,9 @@ pub record CoaxWordAsks (f : Format) (K : ℕ) (w : List ℕ) : Type 0 where
   pub count : Counted f K
   pub word : Packed (places (f .code)) w
 
-pub record CoaxFinishAsks (f : Format) (held room : ℕ) : Type 0 where
-  pub count : Counted f held
+pub record CoaxFinishAsks (f : Format) (t : Stream) (room : ℕ) : Type 0 where
+  pub stream : Serves f t
+  pub count : Counted f (t .held)
   pub fits : need (tailBits f) ≤ room
 
 abbrev pub CoaxEncoded : CoaxCode → ℕ → List ℕ → List ℕ → Answer → List ℕ → Type 0
@@ -108,6 +116,6 @@ CoaxChecked k K w = Checked (coaxWordOrder (coaxFormat k) K w) (WordVerdict (coa
 
 abbrev pub CoaxFinished : CoaxCode → Stream → List ℕ → Outcome → List ℕ → Type 0
 CoaxFinished k t o r o′ =
-    Promise (coaxFinishOrder (coaxFormat k) (t .held) (length o)) (r .answer)
-    ((r .stream ≡ fresh) × TailWritten (coaxFormat k) (t .checks) 0 o o′)
+    Promise (coaxFinishOrder (coaxFormat k) t (length o)) (r .answer)
+    ((r .stream ≡ fresh (coaxNumber k)) × TailWritten (coaxFormat k) (t .checks) 0 o o′)
     ((r .stream ≡ t) × (o′ ≡ o))

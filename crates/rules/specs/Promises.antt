@@ -16,7 +16,7 @@
 --   Encoded f K u d o a o′    encode
 --   LineChecked f K l d j     check a line word
 --   PieceTaken f b s t r      a stream's piece
---   Finished f d t o r o′     a stream's finish: it writes the tail, and the stream is fresh again
+--   Finished f d t o r o′     a stream's finish: it writes the tail, and the stream is a fresh one of the same code
 --
 -- Believe this file beside the paper; nothing here is proved.
 use mathlib.Core.Path.{_≡_}
@@ -90,10 +90,10 @@ LineChecked f K l d = Checked (lineOrder f K l d) (LineVerdict f K l d)
 
 abbrev pub PieceTaken : Format → ℕ → List ℕ → Stream → Outcome → Type 0
 PieceTaken f b s t r =
-    Promise (pieceOrder f (t .held) b s) (r .answer) (Fed f b s t (r .stream)) (r .stream ≡ t)
+    Promise (pieceOrder f t b s) (r .answer) (Fed f b s t (r .stream)) (r .stream ≡ t)
 
 abbrev pub Finished : Format → ℕ → Stream → List ℕ → Outcome → List ℕ → Type 0
 Finished f d t o r o′ =
-    Promise (finishOrder f (t .held) d (length o)) (r .answer)
-    ((r .stream ≡ fresh) × TailWritten f (t .checks) d o o′)
+    Promise (finishOrder f t d (length o)) (r .answer)
+    ((r .stream ≡ fresh (f .number)) × TailWritten f (t .checks) d o o′)
     ((r .stream ≡ t) × (o′ ≡ o))

@@ -1,5 +1,5 @@
--- Paper 01, 'Refusal numbers', and W2 and W4 of paper 02: when each is given, and the order of each operation. 0 stands
--- for no refusal. A code's format has the limits.
+-- Paper 01, 'Refusal numbers', and W2, W4 and W9 of paper 02: when each is given, and the order of each operation. 0
+-- stands for no refusal. A code's format has the limits.
 --
 --   Refusal      its number, and when it applies
 --   refusal k A  the refusal numbered k, which applies where A holds
@@ -7,7 +7,8 @@
 --   BadList n l  the list l has another length than n entries take, or these are no reordering of n places
 --   ofLists f    the refusal of the lists that are lent, 16; where none are, none
 --   ofCount f K  the refusals of a payload's count: 1, 10
---   ofPiece f .. the refusals of a piece alone: 7, 2, 3, 6
+--   ofStream f t the refusals of a stream's state: 12, 7
+--   ofPiece f .. the refusals of a piece alone: 12, 7, 2, 3, 6
 --   xOrder       the order of operation x
 --
 -- Believe this file beside the paper; nothing here is proved.
@@ -22,6 +23,7 @@ use Rattle.rules.specs.Lists.{Reordering, entryOf, Lists, none, pair}
 use Rattle.rules.specs.Formats.{Format, delimiterMost}
 use Rattle.rules.specs.Words.{lineBits, tailBits}
 use Rattle.rules.specs.Verdicts.{ShortenedSet}
+use Rattle.rules.specs.declared.Stream.{Stream}
 
 pub record Refusal : Type 1 where
   pub number : ℕ
@@ -58,9 +60,9 @@ noRoom room b = refusal 5 (room < need b)
 abbrev pub tooManyWith : Format → ℕ → ℕ → Refusal
 tooManyWith f held b = refusal 6 (f .most < held + b)
 
--- 7: the stream claims more bits than the most
-abbrev pub tooMany : Format → ℕ → Refusal
-tooMany f held = refusal 7 (f .most < held)
+-- 7: the stream claims more bits than the most, or a 1 stands past the checks in use
+abbrev pub badState : Format → Stream → Refusal
+badState f t = refusal 7 ((f .most < t .held) ⊎ UnusedSet (t .checks) (checks (f .code)))
 
 -- 8: a shortened place is 1
 abbrev pub someShortened : Format → ℕ → List ℕ → Refusal
@@ -69,6 +71,10 @@ someShortened f K w = refusal 8 ((n : ℕ) × ShortenedSet f K (bit w) n)
 -- 10: the count of payload bits is not a multiple of a data block's
 abbrev pub brokenBlock : Format → ℕ → Refusal
 brokenBlock f K = refusal 10 (K % f .dataBlock ≡ 0 → ⊥)
+
+-- 12: the stream serves another code, or none: its number is another than the code's
+abbrev pub otherCode : Format → Stream → Refusal
+otherCode f t = refusal 12 (t .number ≡ f .number → ⊥)
 
 -- 16: a list has another length, or is no reordering of its places
 abbrev pub BadList : ℕ → List ℕ → Type 0
@@ -84,22 +90,25 @@ ofLists f = badLists (payloadPlaces (f .code)) (checks (f .code)) (f .lists)
 abbrev pub ofCount : Format → ℕ → List Refusal
 ofCount f K = badCount f K ∷ brokenBlock f K ∷ []
 
-abbrev pub ofPiece : Format → ℕ → ℕ → List ℕ → List Refusal
-ofPiece f held b s = tooMany f held ∷ wrongBytes s b ∷ unusedSet s b ∷ tooManyWith f held b ∷ []
+abbrev pub ofStream : Format → Stream → List Refusal
+ofStream f t = otherCode f t ∷ badState f t ∷ []
+
+abbrev pub ofPiece : Format → Stream → ℕ → List ℕ → List Refusal
+ofPiece f t b s = ofStream f t ++ wrongBytes s b ∷ unusedSet s b ∷ tooManyWith f (t .held) b ∷ []
 
 -- encode: 16, 1, 10, 2, 3, 4, 5
 abbrev pub encodeOrder : Format → ℕ → List ℕ → ℕ → ℕ → List Refusal
 encodeOrder f K u d room =
     ofLists f ++ (ofCount f K ++ wrongBytes u K ∷ unusedSet u K ∷ badDelimiter f d ∷ noRoom room (lineBits f K) ∷ [])
 
--- piece: 16, 7, 2, 3, 6
-abbrev pub pieceOrder : Format → ℕ → ℕ → List ℕ → List Refusal
-pieceOrder f held b s = ofLists f ++ ofPiece f held b s
+-- piece: 16, 12, 7, 2, 3, 6
+abbrev pub pieceOrder : Format → Stream → ℕ → List ℕ → List Refusal
+pieceOrder f t b s = ofLists f ++ ofPiece f t b s
 
--- finish: 16, 7, 1, 10, 4, 5
-abbrev pub finishOrder : Format → ℕ → ℕ → ℕ → List Refusal
-finishOrder f held d room =
-    ofLists f ++ (tooMany f held ∷ ofCount f held ++ badDelimiter f d ∷ noRoom room (tailBits f) ∷ [])
+-- finish: 16, 12, 7, 1, 10, 4, 5
+abbrev pub finishOrder : Format → Stream → ℕ → ℕ → List Refusal
+finishOrder f t d room =
+    ofLists f ++ (ofStream f t ++ (ofCount f (t .held) ++ badDelimiter f d ∷ noRoom room (tailBits f) ∷ []))
 
 -- complete: 16, 1, 10, 2, 8
 abbrev pub completeOrder : Format → ℕ → List ℕ → List Refusal

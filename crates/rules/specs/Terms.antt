@@ -1,6 +1,6 @@
--- For the contracts of inner functions: a check by its block columns, the first of some numbers, and the fibre code by
--- one list alone. No promise of a public operation cites this file. The law check-columns says that a check is the sum
--- mod 2 of its terms.
+-- For the contracts of inner functions: a check by its block columns, the first of some numbers, the fibre code by one
+-- list alone, and what a code asks of a stream. No promise of a public operation cites this file. The law
+-- check-columns says that a check is the sum mod 2 of its terms.
 --
 --   proper z a      the test of an entry, for blocks of z bits: it is -1, or a turn below z
 --   Proper z l      each entry of the line l passes it
@@ -11,6 +11,7 @@
 --   FirstTold xs r  r is that one
 --   byFirst a       the fibre code where the payload goes in by the list a; what does not ask for the parity's order
 --   bySecond b      and where the parity goes out by the list b; what does not ask for the payload's order
+--   limits f        what a code asks of a stream, as the numbers that a test is given
 use mathlib.Core.Path.{_≡_}
 use mathlib.Core.Bool.{Bool, cond}
 use mathlib.Core.List.{List, [], _∷_}
@@ -22,6 +23,7 @@ use Rattle.rules.specs.Matrix.{Code, checks, payloadPlaces}
 use Rattle.rules.specs.Table.{fibre}
 use Rattle.rules.specs.Lists.{placeIn, none}
 use Rattle.rules.specs.Formats.{Format, fibreBy}
+use Rattle.rules.specs.declared.Limits.{Limits}
 
 abbrev pub proper : ℕ → ℤ → Bool
 proper z (pos a) = ltb a z
@@ -52,3 +54,6 @@ byFirst a = fibreBy (placeIn (payloadPlaces fibre) a) (λ t. t) none
 
 abbrev pub bySecond : List ℕ → Format
 bySecond b = fibreBy (λ t. t) (placeIn (checks fibre) b) none
+
+abbrev pub limits : Format → Limits
+limits f = record { number = f .number; most = f .most; used = checks (f .code) }

@@ -4,8 +4,10 @@ ghost use mathlib.Core.Path.{_≡_};
 ghost use Rattle.rules.specs.Matrix as matrix;
 ghost use Rattle.rules.specs.Matrix.{payloadPlaces};
 ghost use Rattle.rules.specs.CoaxTables.{longLines, shortLines};
-ghost use Rattle.rules.specs.Coax.{coaxSize, coaxColumns, coaxCode};
+ghost use Rattle.rules.specs.Coax.{coaxSize, coaxColumns, coaxCode, coaxNumber, coaxFormat};
+ghost use Rattle.rules.specs.Terms as terms;
 use crate::CoaxCode;
+use crate::Limits;
 
 // The block rows of both, and as many parity columns.
 pub const ROWS: usize = 5;
@@ -169,5 +171,26 @@ pub fn places(code: CoaxCode) -> usize
     match code {
         CoaxCode::Long => 16200,
         CoaxCode::Short => 5940,
+    }
+}
+
+// The number by which a stream says that it serves this code.
+pub fn number(code: CoaxCode) -> usize
+    ensures { λ r. ⌜ r ≡ coaxNumber code ⌝ }
+{
+    match code {
+        CoaxCode::Long => 2,
+        CoaxCode::Short => 3,
+    }
+}
+
+// What the code asks of a stream.
+pub fn limits(code: CoaxCode) -> Limits
+    ensures { λ r. ⌜ r ≡ terms.limits (coaxFormat code) ⌝ }
+{
+    Limits {
+        number: number(code),
+        most: payload_places(code),
+        used: checks(code),
     }
 }

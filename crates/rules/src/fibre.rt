@@ -4,6 +4,12 @@ ghost use mathlib.Core.Path.{_≡_};
 ghost use Prim.Native.Nat.{_<_};
 ghost use Rattle.rules.specs.Matrix.{entry};
 ghost use Rattle.rules.specs.Table.{fibre, lines};
+ghost use Rattle.rules.specs.Formats.{fibreKept};
+ghost use Rattle.rules.specs.Terms as terms;
+use crate::Limits;
+
+// The number by which a stream says that it serves this code.
+pub const NUMBER: usize = 1;
 
 // The bits of a block, the block rows, and the block columns, of which the first carry payload.
 pub const SIZE: usize = 256;
@@ -129,6 +135,17 @@ const TABLE: [[i16; ROWS]; COLUMNS] = [
     [58, 0, 172, 39, 242, 193, 25, 120, 16, 202, 207, 69],
     [27, -1, 42, 234, 228, 241, 94, 192, 0, 215, 109, 88],
 ];
+
+// What the code asks of a stream.
+pub fn limits() -> Limits
+    ensures { λ r. ⌜ r ≡ terms.limits fibreKept ⌝ }
+{
+    Limits {
+        number: NUMBER,
+        most: PAYLOAD_MOST,
+        used: CHECKS,
+    }
+}
 
 // Makes a copy of the table, once before a loop: a constant that is indexed in a loop is built anew at each read. It is
 // written where it is wanted, as one that is returned would be copied once more. No other function names the constant,

@@ -35,13 +35,23 @@ pub enum CoaxCode {
     Short,
 }
 
-// The bytes of running checks that a stream holds.
+// The bytes of running checks that a stream holds, and their bits.
 pub const STREAM_BYTES: usize = 384;
 
-// A stream: the payload bits held so far, and the running checks of them.
+pub const STREAM_BITS: usize = 3072;
+
+// A stream: the number of the code that it serves, the payload bits held so far, and the running checks of them.
 pub struct Stream {
+    pub number: usize,
     pub held: usize,
     pub checks: [u8; STREAM_BYTES],
+}
+
+// What a code asks of a stream: its number, the most bits held, and how many running checks are in use.
+pub struct Limits {
+    pub number: usize,
+    pub most: usize,
+    pub used: usize,
 }
 
 // What a stream's operation answers, with the stream that it hands back.

@@ -1,39 +1,29 @@
 -- The running checks of all blocks of a full word are its checks, so their ones are its failing rows. Over any code.
 --
---   checks-past        a check past the last row is 0
 --   running-bit        the running checks of all blocks of a word are its checks
 --   failing-counted    the ones of a word's running checks are as many as its failing rows
 --   failing-none       where there are none, no check fails
 use mathlib.Core.Path.{_≡_, sym, ap, _∙_}
-use mathlib.Core.List.{List, []}
-use Prim.Native.Nat.{ℕ, _+_, _-_, _*_, _%_, _≤_, _<_}
+use mathlib.Core.List.{List}
+use Prim.Native.Nat.{ℕ, _+_, _-_, _*_, _≤_, _<_}
 use native.Mathlib.Omega.{arith}
 use lib.Dec.{T, eqb}
-use lib.ListN.{length, getD, replicate}
+use lib.ListN.{length, replicate}
 use Rattle.rules.specs.Bits.{bit, zeros, Adds}
 use Rattle.rules.specs.Matrix.{Code, checks, total, check}
-use Rattle.rules.specs.Terms.{term}
 use Rattle.rules.specs.Verdicts.{Nowhere, Fails, rowFails, howMany}
 use Rattle.rules.proofs.Tests.{asBit-bit}
 use Rattle.rules.proofs.TableLaws.{fits, line-length}
 use Rattle.rules.proofs.Sums.{total-same, total-none, total-from}
 use Rattle.rules.proofs.Counting.{howMany-some}
-use Rattle.rules.proofs.Checks.{check-below, check-same, check-columns}
+use Rattle.rules.proofs.Checks.{check-below, check-same}
 use Rattle.laws.proofs.Runs.{run-low}
+use Rattle.laws.proofs.Columns.{check-past}
 use Rattle.laws.proofs.Running.{checks-again}
 use Rattle.running.specs.Running.{blocksOf}
-use Rattle.running.proofs.Blocks.{through-past, first-blocks}
+use Rattle.running.proofs.Blocks.{first-blocks}
 
 module _ (c : Code) (some : 0 < c .size) (fine : T (fits c)) where
-  pub checks-past : (w : ℕ → ℕ) (n : ℕ) → checks c ≤ n → check c n w ≡ 0
-  checks-past w n h =
-      check-columns c some n w ∙ ap (λ (s : ℕ). s % 2) (total-none (c .columns) (term c n w) none)
-    where
-      none : (j : ℕ) → j < c .columns → term c n w j ≡ 0
-      none j l =
-          through-past (c .size) some (getD (c .table) j []) (λ t. w (c .size * j + t)) n
-          (rw (line-length c fine j l) h)
-
   -- m is the ones of the running checks s, which all blocks of the word w were added to
   module _ (w s : List ℕ) (m k : ℕ)
       (a : Adds (replicate k 0) s (λ n. check c n (blocksOf (c .size) w 0 (c .columns))))
@@ -49,7 +39,7 @@ module _ (c : Code) (some : 0 < c .size) (fine : T (fits c)) where
         let rest = 8 * length s - checks c in
         let all : checks c + rest ≡ 8 * length s = omega arith in
         let past = total-none rest (λ n. bit s (checks c + n))
-        (λ n l. running-bit (checks c + n) ∙ checks-past (bit w) (checks c + n) (omega arith)) in
+        (λ n l. running-bit (checks c + n) ∙ check-past c (line-length c fine) (bit w) (checks c + n) (omega arith)) in
         o
         ∙ ap (λ (n : ℕ). total n (bit s)) (sym all)
         ∙ total-from (checks c) rest (bit s)

@@ -17,14 +17,22 @@ use rules::Outcome;
 use rules::Stream;
 use rules::fibre;
 
-// A fresh stream: 0 bits held, and 384 zero bytes of running checks.
-pub fn begin() -> Stream
-    ensures { λ r. ⌜ r ≡ fresh ⌝ }
+// A fresh stream of the code that has this number: 0 bits held, and 384 zero bytes of running checks.
+pub fn fresh(number: usize) -> Stream
+    ensures { λ r. ⌜ r ≡ fresh number ⌝ }
 {
     Stream {
+        number: number,
         held: 0,
         checks: [0u8; rules::STREAM_BYTES],
     }
+}
+
+// A fresh stream of the fibre code.
+pub fn begin() -> Stream
+    ensures { λ r. ⌜ r ≡ fresh (fibreKept .number) ⌝ }
+{
+    fresh(fibre::NUMBER)
 }
 
 // Adds a piece's bits, which stand at the places from `held` on, and returns how many bits are then held.
@@ -50,7 +58,7 @@ pub fn piece(stream: Stream, count: usize, bytes: &[u8], first: &[u8], second: &
         ⌝ }
 {
     let held = stream.held;
-    let refusal = refusals::piece(held, count, bytes, first, second);
+    let refusal = refusals::piece(stream, count, bytes, first, second);
     if refusal != 0 {
         return Outcome {
             answer: Answer::Refused(refusal),
@@ -62,6 +70,7 @@ pub fn piece(stream: Stream, count: usize, bytes: &[u8], first: &[u8], second: &
     Outcome {
         answer: Answer::Done,
         stream: Stream {
+            number: stream.number,
             held: after,
             checks: checks,
         },
@@ -97,7 +106,7 @@ pub fn finish(
         (now (tail .exit))
         ⌝ }
 {
-    let refusal = refusals::finish(stream.held, delimiter, first, second, tail.len());
+    let refusal = refusals::finish(stream, delimiter, first, second, tail.len());
     if refusal != 0 {
         return Outcome {
             answer: Answer::Refused(refusal),

@@ -1,7 +1,8 @@
 -- Demand 1, in plain words: each operation is done, or gives a verdict, exactly where its inputs are what it asks. Any
 -- format.
 --
---   packed-free, counted-free    the refusals of bytes and of a count's limits do not apply
+--   packed-free, counted-free, stream-free    the refusals of bytes, of a count's limits and of a stream's state do not
+--                apply
 --   X-free       where the inputs are what operation X asks, no refusal of its order applies
 --   X-exactly    X is done, or gives a verdict, exactly then
 use mathlib.Core.Path.{_≡_, ap}
@@ -14,9 +15,10 @@ use Rattle.rules.specs.Bits.{Packed}
 use Rattle.rules.specs.Matrix.{checks, payloadPlaces}
 use Rattle.rules.specs.Lists.{Lists, none, pair, AreListed}
 use Rattle.rules.specs.Formats.{Format}
-use Rattle.rules.specs.Refusals.{Refusal, badCount, brokenBlock, wrongBytes, unusedSet, badLists, ofLists}
+use Rattle.rules.specs.Refusals.{Refusal, badCount, brokenBlock, wrongBytes, unusedSet, otherCode, badState}
+use Rattle.rules.specs.Refusals.{badLists, ofLists}
 use Rattle.rules.specs.Refusals.{encodeOrder, pieceOrder, finishOrder, completeOrder, wordOrder, lineOrder}
-use Rattle.rules.specs.Asked.{ListsFit, WholeBlocks}
+use Rattle.rules.specs.Asked.{ListsFit, WholeBlocks, Serves}
 use Rattle.rules.specs.Asked.{EncodeAsks, CompleteAsks, PieceAsks, FinishAsks, WordAsks, LineAsks}
 use Rattle.rules.specs.Coax.{Counted}
 use Rattle.rules.specs.Promises.{refusalOf, refusalIn}
@@ -58,6 +60,11 @@ module _ (f : Format) where
   count-free w rest =
       (counted-free (record { least = w .least; most = w .most }), (λ x. x (w .whole), rest))
 
+  -- before any others, R, the refusals of a stream's state do not apply
+  pub stream-free : {t : Stream} {R : Type 0} → Serves f t → R
+      → (otherCode f t .applies → ⊥) × ((badState f t .applies → ⊥) × R)
+  stream-free s rest = (λ x. x (s .number), (⊎-elim (λ l. omega (arith, s .held)) (s .unused), rest))
+
   encode-free : (K : ℕ) (u : List ℕ) (d room : ℕ) → EncodeAsks f K u d room → Free (encodeOrder f K u d room)
   encode-free K u d room a =
       lists-free _ (a .lists)
@@ -69,17 +76,16 @@ module _ (f : Format) where
       lists-free _ (a .lists)
       (count-free (a .count) (λ x. x (a .bytes), (λ x. a .shortened (x .0) (x .1), tt)))
 
-  piece-free : (held b : ℕ) (s : List ℕ) → PieceAsks f held b s → Free (pieceOrder f held b s)
-  piece-free held b s a =
+  piece-free : (t : Stream) (b : ℕ) (s : List ℕ) → PieceAsks f t b s → Free (pieceOrder f t b s)
+  piece-free t b s a =
       lists-free _ (a .lists)
-      (λ x. omega (arith, a .most), packed-free (a .piece) (λ x. omega (arith, a .most), tt))
+      (stream-free (a .stream) (packed-free (a .piece) (λ x. omega (arith, a .most), tt)))
 
-  finish-free : (held d room : ℕ) → FinishAsks f held d room → Free (finishOrder f held d room)
-  finish-free held d room a =
-      lists-free _ (a .lists) (
-        λ x. omega (arith, a .count .most),
-        count-free (a .count) (λ x. omega (arith, a .delimiter), (λ x. omega (arith, a .fits), tt)),
-      )
+  finish-free : (t : Stream) (d room : ℕ) → FinishAsks f t d room → Free (finishOrder f t d room)
+  finish-free t d room a =
+      lists-free _ (a .lists)
+      (stream-free (a .stream)
+      (count-free (a .count) (λ x. omega (arith, a .delimiter), (λ x. omega (arith, a .fits), tt))))
 
   pub word-free : (K : ℕ) (w : List ℕ) → WordAsks f K w → Free (wordOrder f K w)
   word-free K w a = lists-free _ (a .lists) (count-free (a .count) (λ x. x (a .bytes), tt))
@@ -104,19 +110,19 @@ module _ (f : Format) where
   )
 
   pub piece-exactly : (b : ℕ) (s : List ℕ) (t : Stream) (r : Outcome) → PieceTaken f b s t r
-      → Exactly (r .answer ≡ Done) (PieceAsks f (t .held) b s)
+      → Exactly (r .answer ≡ Done) (PieceAsks f t b s)
   piece-exactly b s t r x = (
-    λ e. piece-asked f (ap refusalOf e) (t .held) b s (x .told),
-    λ i. done-exactly (pieceOrder f (t .held) b s) (lent-numbered f _ tt) (r .answer) x .1 (piece-free (t .held) b s i),
+    λ e. piece-asked f (ap refusalOf e) t b s (x .told),
+    λ i. done-exactly (pieceOrder f t b s) (lent-numbered f _ tt) (r .answer) x .1 (piece-free t b s i),
   )
 
   pub finish-exactly : (d : ℕ) (t : Stream) (o : List ℕ) (r : Outcome) (o′ : List ℕ) → Finished f d t o r o′
-      → Exactly (r .answer ≡ Done) (FinishAsks f (t .held) d (length o))
+      → Exactly (r .answer ≡ Done) (FinishAsks f t d (length o))
   finish-exactly d t o r o′ x = (
-    λ e. finish-asked f (ap refusalOf e) (t .held) d (length o) (x .told),
+    λ e. finish-asked f (ap refusalOf e) t d (length o) (x .told),
     λ i.
-        done-exactly (finishOrder f (t .held) d (length o)) (lent-numbered f _ tt) (r .answer) x .1
-        (finish-free (t .held) d (length o) i),
+        done-exactly (finishOrder f t d (length o)) (lent-numbered f _ tt) (r .answer) x .1
+        (finish-free t d (length o) i),
   )
 
   pub word-exactly : (K : ℕ) (w : List ℕ) (j : Judgement) → WordChecked f K w j

@@ -1,10 +1,11 @@
--- W8 of paper 02, the two coax codes: any two outcomes that fit one promise are equal. And demand 1: each operation is
--- done, or gives a verdict, exactly where its inputs are what it asks, and a refusal changes nothing. Over either code;
--- where a parity comes in, it is asked that the code has one, and one only, for all checks.
+-- W8 and W9 of paper 02, the two coax codes: any two outcomes that fit one promise are equal. And demand 1: each
+-- operation is done, or gives a verdict, exactly where its inputs are what it asks, and a refusal changes nothing. Over
+-- either code; where a parity comes in, it is asked that the code has one, and one only, for all checks.
 --
 --   coax-sized     the sizes of a coax code's format go together
 --   coax-encoded, coax-finished    the refusals that any format has besides never apply to a coax code; so what encode
 --                  and the finish promise is what they promise of any format, with the delimiter 0 of 0 bits
+--   coax-finish-told    what the finish's order tells, that of any format tells
 --   coax-encode-same, coax-complete-same, coax-check-same, coax-finish-same    two outcomes are equal
 --   coax-encode-exactly, coax-complete-exactly, coax-check-exactly, coax-finish-exactly    done, or a verdict, exactly
 --                  where the inputs are what is asked
@@ -16,9 +17,9 @@
 use mathlib.Core.Path.{_≡_, refl, ap}
 use mathlib.Core.Logic.{inl, inr, ⊎-elim}
 use mathlib.Core.List.{List}
-use Prim.Native.Nat.{ℕ}
+use Prim.Native.Nat.{ℕ, _<_}
 use native.Mathlib.Omega.{arith}
-use lib.Dec.{lit<, lit≤}
+use lib.Dec.{lit<}
 use lib.ListN.{length}
 use Rattle.rules.specs.Bits.{bit, Bytes, need}
 use Rattle.rules.specs.Matrix.{payloadPlaces}
@@ -38,7 +39,8 @@ use Rattle.rules.specs.declared.Stream.{Stream}
 use Rattle.rules.specs.declared.Outcome.{Outcome}
 use Rattle.rules.specs.declared.CoaxCode.{CoaxCode}
 use Rattle.rules.specs.declared.CoaxCode.the-variants.{Long, Short}
-use Rattle.rules.proofs.CoaxLaws.{coax-numbers}
+use Rattle.rules.proofs.TableLaws.{line-length}
+use Rattle.rules.proofs.CoaxLaws.{coax-fits, coax-numbers}
 use Rattle.laws.proofs.Bits.{bit-past}
 use Rattle.laws.proofs.Told.{not-different, checked-same}
 use Rattle.laws.proofs.Judged.{word-same}
@@ -47,25 +49,23 @@ use Rattle.laws.proofs.Parities.{OneParity}
 use Rattle.theorems.specs.Exactly.{Exactly, Free}
 use Rattle.theorems.specs.Sized.{Sized}
 use Rattle.theorems.proofs.Same.{completion-same, written-line-same, finished-same}
-use Rattle.theorems.proofs.Asked.{packed-free, counted-free}
+use Rattle.theorems.proofs.Asked.{packed-free, counted-free, stream-free}
 use Rattle.theorems.proofs.Refusing.{done-exactly, judged-exactly, kept-part}
 
+-- a payload has at least one bit, by computing
+payload-some : (k : CoaxCode) → 0 < payloadPlaces (coaxCode k)
+payload-some Long = lit< tt
+payload-some Short = lit< tt
+
 pub coax-sized : (k : CoaxCode) → Sized (coaxFormat k)
-coax-sized Long = record {
-  rows = lit≤ tt;
-  whole = refl;
-  some = lit< tt;
-  most = lit≤ tt;
-  sent = lit≤ tt;
+coax-sized k = record {
+  rows = coax-numbers k .rows;
+  whole = omega (arith, coax-numbers k .whole);
+  some = payload-some k;
+  most = omega arith;
+  sent = omega arith;
   kept = λ t h. refl;
-}
-coax-sized Short = record {
-  rows = lit≤ tt;
-  whole = refl;
-  some = lit< tt;
-  most = lit≤ tt;
-  sent = lit≤ tt;
-  kept = λ t h. refl;
+  lines = line-length (coaxCode k) (coax-fits k);
 }
 
 -- where the inputs are what an operation asks, no refusal of its order applies
@@ -76,9 +76,9 @@ module _ (f : Format) where
   pub coax-word-free : (K : ℕ) (w : List ℕ) → CoaxWordAsks f K w → Free (coaxWordOrder f K w)
   coax-word-free K w a = (counted-free f (a .count), packed-free (a .word) tt)
 
-  coax-finish-free : (held room : ℕ) → CoaxFinishAsks f held room → Free (coaxFinishOrder f held room)
-  coax-finish-free held room a =
-      (λ x. omega (arith, a .count .most), (counted-free f (a .count), (λ x. omega (arith, a .fits), tt)))
+  coax-finish-free : (t : Stream) (room : ℕ) → CoaxFinishAsks f t room → Free (coaxFinishOrder f t room)
+  coax-finish-free t room a =
+      stream-free f (a .stream) (counted-free f (a .count), (λ x. omega (arith, a .fits), tt))
 
 module _ (k : CoaxCode) where
   abbrev f : Format
@@ -104,10 +104,18 @@ module _ (k : CoaxCode) where
         ),
       ))
 
-  finish-told : (held room r : ℕ) → tells (coaxFinishOrder f held room) r → tells (finishOrder f held 0 room) r
-  finish-told held room r =
+  pub coax-finish-told : (t : Stream) (room r : ℕ) → tells (coaxFinishOrder f t room) r
+      → tells (finishOrder f t 0 room) r
+  coax-finish-told t room r =
       ⊎-elim inl
-      (λ a. inr (a .0, ⊎-elim inl (λ b. inr (b .0, inr (λ x. x (omega arith), inr (λ x. omega arith, b .1)))) (a .1)))
+      (λ a. inr (
+        a .0,
+        ⊎-elim inl
+            (λ b. inr (
+              b .0,
+              ⊎-elim inl (λ c. inr (c .0, inr (λ x. x (omega arith), inr (λ x. omega arith, c .1)))) (b .1),
+            )) (a .1),
+      ))
 
   pub coax-encoded : (K : ℕ) (u o : List ℕ) (a : Answer) (o′ : List ℕ) → CoaxEncoded k K u o a o′
       → Encoded f K u 0 o a o′
@@ -117,7 +125,7 @@ module _ (k : CoaxCode) where
   pub coax-finished : (t : Stream) (o : List ℕ) (r : Outcome) (o′ : List ℕ) → CoaxFinished k t o r o′
       → Finished f 0 t o r o′
   coax-finished t o r o′ x =
-      record { told = finish-told (t .held) (length o) (refusalOf (r .answer)) (x .told); effect = x .effect }
+      record { told = coax-finish-told t (length o) (refusalOf (r .answer)) (x .told); effect = x .effect }
 
   module _ (one : OneParity (coaxCode k)) where
     pub coax-encode-same : (K : ℕ) (u o : List ℕ) (a b : Answer) (o′ o″ : List ℕ) → Bytes o′ → Bytes o″
@@ -130,7 +138,7 @@ module _ (k : CoaxCode) where
 
     pub coax-finish-same : (t : Stream) (o : List ℕ) (r r′ : Outcome) (o′ o″ : List ℕ) → Bytes o′ → Bytes o″
         → CoaxFinished k t o r o′ → CoaxFinished k t o r′ o″ → (r ≡ r′) × (o′ ≡ o″)
-    coax-finish-same t o = finished-same f one (coaxFinishOrder f (t .held) (length o)) 0 t o
+    coax-finish-same t o = finished-same f one (coaxFinishOrder f t (length o)) 0 t o
 
   pub coax-check-same : (K : ℕ) (w : List ℕ) (j j′ : Judgement) → CoaxChecked k K w j → CoaxChecked k K w j′ → j ≡ j′
   coax-check-same K w =
@@ -158,12 +166,10 @@ module _ (k : CoaxCode) where
   )
 
   pub coax-finish-exactly : (t : Stream) (o : List ℕ) (r : Outcome) (o′ : List ℕ) → CoaxFinished k t o r o′
-      → Exactly (r .answer ≡ Done) (CoaxFinishAsks f (t .held) (length o))
+      → Exactly (r .answer ≡ Done) (CoaxFinishAsks f t (length o))
   coax-finish-exactly t o r o′ x = (
-    λ e. coax-finish-asked f (ap refusalOf e) (t .held) (length o) (x .told),
-    λ i.
-        done-exactly (coaxFinishOrder f (t .held) (length o)) tt (r .answer) x .1
-        (coax-finish-free f (t .held) (length o) i),
+    λ e. coax-finish-asked f (ap refusalOf e) t (length o) (x .told),
+    λ i. done-exactly (coaxFinishOrder f t (length o)) tt (r .answer) x .1 (coax-finish-free f t (length o) i),
   )
 
   pub coax-encode-kept : (K : ℕ) (u o : List ℕ) (a : Answer) (o′ : List ℕ) → (a ≡ Done → ⊥) → CoaxEncoded k K u o a o′

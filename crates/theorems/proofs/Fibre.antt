@@ -9,6 +9,7 @@ use lib.Dec.{lit<, lit≤}
 use Rattle.rules.specs.Matrix.{payloadPlaces}
 use Rattle.rules.specs.Table.{fibre}
 use Rattle.rules.specs.Formats.{fibreFormat}
+use Rattle.rules.proofs.TableLaws.{fibre-fits, line-length}
 use Rattle.laws.proofs.Reorderings.{place-high}
 use Rattle.theorems.specs.Sized.{Sized}
 
@@ -20,4 +21,5 @@ fibre-sized a b = record {
   most = lit≤ tt;
   sent = lit≤ tt;
   kept = λ t h. place-high (payloadPlaces fibre) a t h;
+  lines = line-length fibre fibre-fits;
 }

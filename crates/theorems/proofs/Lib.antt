@@ -4,10 +4,13 @@ pub mod Asked
 pub mod FullWords
 pub mod Lines
 pub mod Streams
+pub mod Serving
 pub mod Fibre
 pub mod Plain
 pub mod Host
 pub mod Coax
 pub mod CoaxWords
+pub mod Demand
 pub mod CoaxStreams
 pub mod CoaxHost
+pub mod HostStreams

@@ -1,6 +1,6 @@
 -- W2 of paper 02: the pair of lists that changes nothing gives paper 01's words. With it each promise says, no less and
 -- no more, what it says of fibreKept: there both interleavers keep the order and no list is lent, so that the orders,
--- the words, the verdicts and the running checks are paper 01's, as W3 and W4 amend them.
+-- the words, the verdicts and the running checks are paper 01's, as W3, W4 and W9 amend them.
 --
 --   plain-pair      there is such a pair, as bytes
 --   plain-fits      it is one of reorderings, so it is never refused
@@ -143,8 +143,10 @@ module _ (a b : List ℕ) (first : Plain (payloadPlaces fibre) a) (second : Plai
   )
 
   fed-unlent : (n : ℕ) (s : List ℕ) (t v : Stream) → Exactly (Fed lentKept n s t v) (Fed fibreKept n s t v)
-  fed-unlent n s t v =
-      (λ x. record { held = x .held; checks = x .checks }, λ x. record { held = x .held; checks = x .checks })
+  fed-unlent n s t v = (
+    λ x. record { number = x .number; held = x .held; checks = x .checks },
+    λ x. record { number = x .number; held = x .held; checks = x .checks },
+  )
 
   pub plain-encoded : (K : ℕ) (u : List ℕ) (d : ℕ) (o : List ℕ) (x : Answer) (o′ : List ℕ)
       → Exactly (Encoded (fibreFormat a b) K u d o x o′) (Encoded fibreKept K u d o x o′)
@@ -169,13 +171,13 @@ module _ (a b : List ℕ) (first : Plain (payloadPlaces fibre) a) (second : Plai
       → Exactly (PieceTaken (fibreFormat a b) n s t r) (PieceTaken fibreKept n s t r)
   plain-taken n s t r =
       plainly (λ f. PieceTaken f n s t r) _
-      (promised (pieceOrder fibreKept (t .held) n s) (r .answer) (fed-unlent n s t (r .stream)))
+      (promised (pieceOrder fibreKept t n s) (r .answer) (fed-unlent n s t (r .stream)))
 
   pub plain-finished : (d : ℕ) (t : Stream) (o : List ℕ) (r : Outcome) (o′ : List ℕ)
       → Exactly (Finished (fibreFormat a b) d t o r o′) (Finished fibreKept d t o r o′)
   plain-finished d t o r o′ =
       plainly (λ f. Finished f d t o r o′) _
-      (promised (finishOrder fibreKept (t .held) d (length o)) (r .answer) alike)
+      (promised (finishOrder fibreKept t d (length o)) (r .answer) alike)
 
   pub plain-host-encoded : (K : ℕ) (u : List ℕ) (d : ℕ) (o : List ℕ) (r : ℕ) (o′ : List ℕ)
       → Exactly (HostEncoded a b K u d o r o′) (Answered (λ x. Encoded fibreKept K u d o x o′) r)

@@ -4,8 +4,9 @@
 --   complete-same, word-check-same, encode-same, line-check-same, piece-same, finish-same
 --   completion-same, written-line-same, finished-same    the same by any order
 --
+--   tail-written-same    what is written of a tail is single
 --   written-bit    a bit that is written
---   stream-of      streams with the same count and the same running checks are equal
+--   stream-of      streams with the same number, the same count and the same running checks are equal
 --   line-one       the line word of a payload is single
 use mathlib.Core.Path.{_≡_, refl, sym, ap, ap₂, subst, _∙_}
 use mathlib.Core.List.{List, _++_}
@@ -58,8 +59,8 @@ written-same b x y s t u bt bu e p q = bits-same t u bt bu (p .length-same ∙ s
           rw (← f) (sym (bit-drop t (need b) m) ∙ after ∙ bit-drop u (need b) m)
     ]
 
-pub stream-of : {s t : Stream} → s .held ≡ t .held → s .checks ≡ t .checks → s ≡ t
-stream-of h c = ap₂ (λ (n : ℕ) (l : List ℕ). record { held = n; checks = l }) h c
+pub stream-of : {s t : Stream} → s .number ≡ t .number → s .held ≡ t .held → s .checks ≡ t .checks → s ≡ t
+stream-of n h c = λ i. record { number = n i; held = h i; checks = c i }
 
 -- an outcome is its answer and its stream; a finish leaves a stream and an output
 outcome-of : {r s : Outcome} → r .answer ≡ s .answer → r .stream ≡ s .stream → r ≡ s
@@ -79,9 +80,10 @@ module _ (f : Format) where
       both : (r .answer ≡ r′ .answer) × (r .stream ≡ r′ .stream)
       both =
           promise-same (λ (v : Stream). Bytes (v .checks)) (λ v. Fed f b s t v) (λ v. v ≡ t)
-          (λ v v′ g g′ p q. stream-of (p .held ∙ sym (q .held)) (adds-same g g′ (p .checks) (q .checks)))
+          (λ v v′ g g′ p q.
+          stream-of (p .number ∙ sym (q .number)) (p .held ∙ sym (q .held)) (adds-same g g′ (p .checks) (q .checks)))
           (λ v v′ e e′. e ∙ sym e′)
-          (pieceOrder f (t .held) b s) (r .answer) (r′ .answer) (r .stream) (r′ .stream) h k x y
+          (pieceOrder f t b s) (r .answer) (r′ .answer) (r .stream) (r′ .stream) h k x y
 
   module _ (one : OneParity (f .code)) where
     pub completion-same : (q : List Refusal) (w : List ℕ) (a b : Answer) (w′ w″ : List ℕ) → Bytes w′ → Bytes w″
@@ -137,10 +139,18 @@ module _ (f : Format) where
         checked-same (lineOrder f K l d) (LineVerdict f K l d)
         (line-same f K l d (sent-one (reordered f (padded K (bit l)))))
 
+    pub tail-written-same : (s : List ℕ) (d : ℕ) (o v v′ : List ℕ) → Bytes v → Bytes v′ → TailWritten f s d o v
+        → TailWritten f s d o v′ → v ≡ v′
+    tail-written-same s d o v v′ g g′ p q =
+        let same = own-same (f .code) one s (p .0) (q .0) (p .1) (q .1) in
+        written-same (tailBits f) _ _ o v v′ g g′
+        (λ n l. tail-same f (p .0) (q .0) d (λ m i. same (f .second m)) n) (p .2) (q .2)
+
     -- what a finish by the order q leaves
     abbrev FinishedBy : List Refusal → ℕ → Stream → List ℕ → Outcome → List ℕ → Type 0
     FinishedBy q d t o r o′ =
-        Promise q (r .answer) ((r .stream ≡ fresh) × TailWritten f (t .checks) d o o′) ((r .stream ≡ t) × (o′ ≡ o))
+        Promise q (r .answer) ((r .stream ≡ fresh (f .number)) × TailWritten f (t .checks) d o o′)
+        ((r .stream ≡ t) × (o′ ≡ o))
 
     pub finished-same : (q : List Refusal) (d : ℕ) (t : Stream) (o : List ℕ) (r r′ : Outcome) (o′ o″ : List ℕ)
         → Bytes o′ → Bytes o″ → FinishedBy q d t o r o′ → FinishedBy q d t o r′ o″ → (r ≡ r′) × (o′ ≡ o″)
@@ -152,20 +162,14 @@ module _ (f : Format) where
         Tail : List ℕ → Type 0
         Tail = TailWritten f (t .checks) d o
 
-        done : (v v′ : List ℕ) → Bytes v → Bytes v′ → Tail v → Tail v′ → v ≡ v′
-        done v v′ g g′ p q =
-            let same = own-same (f .code) one (t .checks) (p .0) (q .0) (p .1) (q .1) in
-            written-same (tailBits f) _ _ o v v′ g g′
-            (λ n l. tail-same f (p .0) (q .0) d (λ m i. same (f .second m)) n) (p .2) (q .2)
-
         both : (r .answer ≡ r′ .answer) × (_≡_ {A = Stream × List ℕ} (r .stream, o′) (r′ .stream, o″))
         both =
-            promise-same (λ (v : Stream × List ℕ). Bytes (v .1)) (λ v. (v .0 ≡ fresh) × Tail (v .1))
+            promise-same (λ (v : Stream × List ℕ). Bytes (v .1)) (λ v. (v .0 ≡ fresh (f .number)) × Tail (v .1))
             (λ v. (v .0 ≡ t) × (v .1 ≡ o))
-            (λ v v′ g g′ p q. left-of (p .0 ∙ sym (q .0)) (done (v .1) (v′ .1) g g′ (p .1) (q .1)))
+            (λ v v′ g g′ p q. left-of (p .0 ∙ sym (q .0)) (tail-written-same (t .checks) d o (v .1) (v′ .1) g g′ (p .1) (q .1)))
             (λ v v′ e e′. left-of (e .0 ∙ sym (e′ .0)) (e .1 ∙ sym (e′ .1)))
             q (r .answer) (r′ .answer) (r .stream, o′) (r′ .stream, o″) h k x y
 
     pub finish-same : (d : ℕ) (t : Stream) (o : List ℕ) (r r′ : Outcome) (o′ o″ : List ℕ) → Bytes o′ → Bytes o″
         → Finished f d t o r o′ → Finished f d t o r′ o″ → (r ≡ r′) × (o′ ≡ o″)
-    finish-same d t o = finished-same (finishOrder f (t .held) d (length o)) d t o
+    finish-same d t o = finished-same (finishOrder f t d (length o)) d t o

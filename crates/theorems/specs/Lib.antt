@@ -3,3 +3,4 @@ pub mod Sized
 pub mod Punctured
 pub mod Accepted
 pub mod Attempts
+pub mod Demand

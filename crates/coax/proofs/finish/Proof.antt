@@ -15,7 +15,7 @@ write-tail-requires : tie.Need-write-tail-requires
 write-tail-requires c κs =
     let passed = c .before .before .before in
     let a = passed .before .before .before .args in
-    let asked = coax-finish-asked (coaxFormat (a .code)) (passed .if1 .left) (a .stream .held) (length (a .tail .now))
+    let asked = coax-finish-asked (coaxFormat (a .code)) (passed .if1 .left) (a .stream) (length (a .tail .now))
     (passed .before .finish .ensures) in
     let long : length (a .stream .checks) ≡ streamBytes = search needs in
     (omega (arith, long, coax-numbers (a .code) .size), omega (arith, asked .fits))

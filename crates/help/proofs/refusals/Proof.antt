@@ -5,10 +5,10 @@ use Rattle.help.proofs.refusals.Statement.{statement}
 use Rattle.help.proofs.refusals.Tie as tie
 
 abbrev Inv-loop : tie.InvT-loop
-Inv-loop status₀ number₀ status number = number ≤ 17
+Inv-loop status₀ number₀ status number = number ≤ 18
 
 abbrev μ-loop : tie.MeasureT-loop
-μ-loop status₀ number₀ status number = 17 - number
+μ-loop status₀ number₀ status number = 18 - number
 
 loop-holds : tie.Need-loop-holds Inv-loop μ-loop
 loop-holds c = search needs

@@ -1,5 +1,6 @@
 -- `refusals::finish` meets its contract: its tests stand in the order of the definition.
 use borrow.Author.Needs.{needs}
+use native.Mathlib.Omega.{arith}
 use Rattle.rules.specs.Formats.{fibreFormat}
 use Rattle.rules.specs.Refusals.{finishOrder}
 use Rattle.laws.proofs.Told.{none, test, told-tested}
@@ -13,19 +14,25 @@ returns c =
     let tenth = fourth .before in
     let first = tenth .before in
     let seventh = first .before in
-    let sixteenth = seventh .before in
+    let twelfth = seventh .before .before in
+    let sixteenth = twelfth .before in
     let a = sixteenth .before .before .before .args in
     let f = fibreFormat (a .first .now) (a .second .now) in
-    told-tested (finishOrder f (a .held) (a .delimiter) (a .room)) tt (c .first-told .ensures)
+    told-tested (finishOrder f (a .stream) (a .delimiter) (a .room)) tt (c .first-told .ensures)
     (test (sixteenth .bad-lists .ensures) (λ listed.
-    test (seventh .above .ensures) (λ held.
+    test (twelfth .differs .ensures) (λ serves.
+    test (rw (seventh .before .limits .ensures) at (seventh .bad-state .ensures)) (λ held.
     test (first .outside .ensures) (λ good.
-    test (tenth .differs .ensures) (λ whole.
-    test (fourth .above2 .ensures) (λ small.
-    test (fifth .above3 .ensures) (λ room. none)))))))
+    test (tenth .differs2 .ensures) (λ whole.
+    test (fourth .above .ensures) (λ small.
+    test (fifth .above2 .ensures) (λ room. none))))))))
+
+bad-state-requires : tie.Need-bad-state-requires
+bad-state-requires c κs = rw (c .limits .ensures) (omega arith)
 
 pub finish-spec : {M : Type 1} → statement M
 finish-spec =
     tie.close
-    (tie.spec (λ c κs. search needs) (λ c κs. search needs) (λ c κs. search needs) (λ c κs. search needs)
-    (λ c κs. search needs) (λ c κs. search needs) (λ c. search needs) (λ c κs. search needs) returns)
+    (tie.spec (λ c κs. search needs) (λ c κs. search needs) (λ c κs. search needs) bad-state-requires
+    (λ c κs. search needs) (λ c κs. search needs) (λ c κs. search needs) (λ c κs. search needs) (λ c. search needs)
+    (λ c κs. search needs) returns)

@@ -1,5 +1,6 @@
 -- `stream::piece` meets its contract.
 use borrow.Author.Needs.{needs}
+use mathlib.Core.Path.{refl}
 use Rattle.rules.specs.Formats.{fibreFormat}
 use Rattle.laws.proofs.Asked.{piece-asked}
 use Rattle.laws.proofs.Told.{done-promise}
@@ -13,7 +14,7 @@ feed-requires c κs =
     let good = start .good .0 in
     let a = start .args in
     let f = fibreFormat (a .first .now) (a .second .now) in
-    let asked = piece-asked f (passed .if1 .left) (a .stream .held) (a .count) (a .bytes .now)
+    let asked = piece-asked f (passed .if1 .left) (a .stream) (a .count) (a .bytes .now)
     (passed .before .piece .ensures) in
     (search needs, asked .most, asked .piece, asked .lists .0)
 
@@ -22,7 +23,7 @@ returns-2 c =
     let fed = c .before .feed in
     let passed = c .before .before .before .before in
     done-promise (passed .before .piece .ensures) (passed .if1 .left)
-    record { held = fed .ensures .0; checks = fed .ensures .1 }
+    record { number = refl; held = fed .ensures .0; checks = fed .ensures .1 }
 
 pub piece-spec : {M : Type 1} → statement M
 piece-spec =
