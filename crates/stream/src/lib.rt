@@ -115,7 +115,7 @@ pub fn finish(
     }
     let checks = stream.checks;
     write_tail(&checks, delimiter, second, tail);
-    let next = begin();
+    let next = fresh(fibre::NUMBER);
     Outcome {
         answer: Answer::Done,
         stream: next,
