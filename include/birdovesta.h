@@ -1,10 +1,12 @@
 /* Birdovesta for C: encode a payload into a line word,
- * check a full word, check a line word. The same for
- * the two coax codes: encode a payload into a word,
+ * whole or from pieces (a stream), check a full word,
+ * check a line word. The same for the two coax codes:
+ * encode a payload into a word, whole or from pieces,
  * check a word.
  *
  * Link libhost.a (x86-64 Linux). Nothing is allocated,
- * nothing is kept from one call to the next.
+ * nothing is kept from one call to the next: a stream's
+ * state is kept by the host.
  *
  *
  * Bits in bytes
@@ -59,6 +61,42 @@
  * t, does NOT give the published words.
  *
  *
+ * Streams
+ *
+ * A payload can be given in pieces, cut anywhere. A
+ * stream holds the bits given so far by their checks
+ * alone. The finish writes what follows the payload, and
+ * makes the stream fresh again. The payload itself is the
+ * host's to send.
+ *
+ * A stream's state is 400 bytes, which the host keeps:
+ * bytes 0 to 7     the number of its code, low byte first
+ * bytes 8 to 15    the bits held, low byte first
+ * bytes 16 to 399  the running checks, 384 bytes: check n
+ *                  is bit n of them
+ *
+ * fibre       number 1, at most 14,392 bits; all 3,072
+ *             running checks are in use
+ * code 16200  number 2, at most 14,400 bits; the first
+ *             1,800 running checks are in use
+ * code 5940   number 3, at most 5,040 bits; the first
+ *             900 running checks are in use
+ *
+ * A fresh stream holds 0 bits and checks that are all 0:
+ * byte 0 is 1, 2 or 3, and the 399 others are 0. It must
+ * be put there before the first piece.
+ *
+ * A call of one code refuses the stream of another. The
+ * state may be copied, stored and brought back, and may
+ * be any bytes: all of it is tested at each call. Where
+ * it is allowed, the answer follows from it.
+ *
+ * A stream keeps no lists. The same two must be lent to
+ * every piece of a payload and to its finish. Nothing
+ * refuses others, but the parity is then not that of the
+ * payload.
+ *
+ *
  * What the caller answers for
  *
  * The library can't test this:
@@ -66,8 +104,9 @@
  *   count beside it says. It isn't NULL, even where the
  *   count is 0.
  * - The bytes to be written (line or word, in the
- *   encoders) overlap no other bytes that the call is
- *   lent.
+ *   encoders; the stream, and tail or parity, in the
+ *   calls of a stream) overlap no other bytes that the
+ *   call is lent.
  * - Nobody else writes to any of them during the call.
  * All of this holds of the lists too.
  * All else is tested and refused by a number. The lists
@@ -76,15 +115,19 @@
  *
  * The answer of each call
  *
- * 0               written, or accepted
+ * 0               written, held or accepted
  * 1 to 65,535     refused, by this number:
  *   1  bits is 0 or above 14,392
  *   2  too many or too few bytes
  *   3  an unused high bit is 1
  *   4  the delimiter is above 1,023
  *   5  the output is shorter than needed
+ *   6  more than 14,392 bits with this piece
+ *   7  the stream's state is not allowed
  *  10  bits is not a multiple of 257
+ *  12  the stream serves another code
  *  16  a list is no reordering of its places
+ *  17  the stream is not 400 bytes
  * else            not accepted, for a cause:
  *   cause * 2^32 + count * 2^16 + place
  *   1  shortened: a shortened place is 1;
@@ -102,16 +145,29 @@
  * second are not 6,144, an entry is no place of its
  * list, or two entries of a list name the same place.
  *
+ * In the calls of a stream:
+ * - Refusals 1 and 10 are of the finish, and bits are
+ *   those held.
+ * - Refusal 17: stream_bytes is not 400. It goes before
+ *   every other.
+ * - Refusal 12: the number of the code is not that of the
+ *   call, be it another code's or unknown.
+ * - Refusal 7: more bits are held than the code allows,
+ *   or a running check past those in use is 1. The fibre
+ *   code has none past them.
+ *
  * In the calls of a coax code:
  * - Refusal 1: bits is not 14,400 (code 16200), or not
  *   5,040 (code 5940).
+ * - Refusal 6: more than that with this piece.
  * - Refusals 4, 10 and 16 don't arise.
  * - The only cause is 2, check. The row is 0 to 1,799,
  *   or 0 to 899; count is 1 to 1,800, or 1 to 900.
  *
- * A refused call leaves every byte as it was. Where
- * several numbers fit, the first in the call's order is
- * given. The checks write nothing at all.
+ * A refused call leaves every byte as it was, those of
+ * the stream among them. Where several numbers fit, the
+ * first in the call's order is given. The checks write
+ * nothing at all.
  *
  *
  * Threads
@@ -121,7 +177,8 @@
  * of another. The only condition is the one that the
  * caller answers for above: nobody else writes to the
  * bytes that a call is lent. Several calls may read the
- * same bytes, such as the same lists.
+ * same bytes, such as the same lists. Calls on one stream
+ * write to it, so they are made one after another.
  *
  *
  * Stack
@@ -130,9 +187,13 @@
  *   BIRDOVESTA_ENCODE_STACK
  *   BIRDOVESTA_CHECK_WORD_STACK
  *   BIRDOVESTA_CHECK_LINE_STACK
+ *   BIRDOVESTA_PIECE_STACK
+ *   BIRDOVESTA_FINISH_STACK
  *   BIRDOVESTA_ENCODE_COAX_STACK
  *   BIRDOVESTA_CHECK_COAX_STACK
- * The last two are for both coax codes.
+ *   BIRDOVESTA_PIECE_COAX_STACK
+ *   BIRDOVESTA_FINISH_COAX_STACK
+ * The last four are for both coax codes.
  * Measured for every K, every kind of answer and several
  * pairs of lists, and rounded up. What is the host's own
  * is not counted:
@@ -179,12 +240,23 @@ enum birdovesta_cause {
 #define BIRDOVESTA_WORD_16200_BYTES 2025
 #define BIRDOVESTA_WORD_5940_BYTES 743
 
+/* Bytes of a stream's state, and of what a finish writes:
+ * the fibre code's tail, each coax code's parity. */
+#define BIRDOVESTA_STREAM_BYTES 400
+#define BIRDOVESTA_TAIL_BYTES 322
+#define BIRDOVESTA_PARITY_16200_BYTES 225
+#define BIRDOVESTA_PARITY_5940_BYTES 113
+
 /* Bytes of stack that each call takes at most. */
 #define BIRDOVESTA_ENCODE_STACK 24576
 #define BIRDOVESTA_CHECK_WORD_STACK 24576
 #define BIRDOVESTA_CHECK_LINE_STACK 24576
-#define BIRDOVESTA_ENCODE_COAX_STACK 4096
+#define BIRDOVESTA_PIECE_STACK 24576
+#define BIRDOVESTA_FINISH_STACK 24576
+#define BIRDOVESTA_ENCODE_COAX_STACK 2048
 #define BIRDOVESTA_CHECK_COAX_STACK 2048
+#define BIRDOVESTA_PIECE_COAX_STACK 6144
+#define BIRDOVESTA_FINISH_COAX_STACK 2048
 
 /* The parts of an answer above 65,535. */
 #define BIRDOVESTA_CAUSE(answer) ((answer) >> 32)
@@ -245,6 +317,45 @@ uint64_t birdovesta_check_line(
     const uint8_t *first, size_t first_bytes,
     const uint8_t *second, size_t second_bytes);
 
+/* Give a stream of the fibre code its next piece.
+ * The first `bits` bits of piece follow those held: they
+ * are reordered by first, and their checks are added to
+ * the running ones. Only the stream is written.
+ * stream_bytes: 400.
+ * bits:         0 or more. With those held, at most
+ *               14,392.
+ * piece_bytes:  bits / 8, rounded up.
+ * first_bytes:  29,184.
+ * second_bytes: 6,144. Only tested.
+ * Refusals, in order: 17, 16, 12, 7, 2, 3, 6.
+ */
+uint64_t birdovesta_stream_piece(
+    uint8_t *stream, size_t stream_bytes,
+    size_t bits,
+    const uint8_t *piece, size_t piece_bytes,
+    const uint8_t *first, size_t first_bytes,
+    const uint8_t *second, size_t second_bytes);
+
+/* Finish a stream of the fibre code.
+ * Writes the outgoing parity bits 0 to 2,559 of the
+ * payload held, then the delimiter, to the start of tail:
+ * 2,570 bits from bit 0 on, what follows the payload in
+ * its line word. Later bytes of tail are untouched. The
+ * stream is then the fresh one of the fibre code.
+ * stream_bytes: 400. The bits held are whole data blocks.
+ * delimiter:    0 to 1,023.
+ * first_bytes:  29,184. Only tested.
+ * second_bytes: 6,144.
+ * tail_bytes:   at least 322.
+ * Refusals, in order: 17, 16, 12, 7, 1, 10, 4, 5.
+ */
+uint64_t birdovesta_stream_finish(
+    uint8_t *stream, size_t stream_bytes,
+    size_t delimiter,
+    const uint8_t *first, size_t first_bytes,
+    const uint8_t *second, size_t second_bytes,
+    uint8_t *tail, size_t tail_bytes);
+
 /* Encode by the coax code 16200.
  * Writes the payload, then its parity, to the start of
  * word. Later bytes of word are untouched.
@@ -270,6 +381,33 @@ uint64_t birdovesta_check_16200(
     size_t bits,
     const uint8_t *word, size_t word_bytes);
 
+/* Give a stream of the coax code 16200 its next piece.
+ * The first `bits` bits of piece follow those held: their
+ * checks are added to the running ones. Only the stream
+ * is written.
+ * stream_bytes: 400.
+ * bits:         0 or more. With those held, at most
+ *               14,400.
+ * piece_bytes:  bits / 8, rounded up.
+ * Refusals, in order: 17, 12, 7, 2, 3, 6.
+ */
+uint64_t birdovesta_stream_piece_16200(
+    uint8_t *stream, size_t stream_bytes,
+    size_t bits,
+    const uint8_t *piece, size_t piece_bytes);
+
+/* Finish a stream of the coax code 16200.
+ * Writes the 1,800 parity bits of the payload held to the
+ * start of parity. Later bytes of parity are untouched.
+ * The stream is then the fresh one of this code.
+ * stream_bytes: 400. The bits held are 14,400.
+ * parity_bytes: at least 225.
+ * Refusals, in order: 17, 12, 7, 1, 5.
+ */
+uint64_t birdovesta_stream_finish_16200(
+    uint8_t *stream, size_t stream_bytes,
+    uint8_t *parity, size_t parity_bytes);
+
 /* Encode by the coax code 5940.
  * Writes the payload, then its parity, to the start of
  * word, and 0 in the 4 unused bits. Later bytes of word
@@ -294,6 +432,34 @@ uint64_t birdovesta_encode_5940(
 uint64_t birdovesta_check_5940(
     size_t bits,
     const uint8_t *word, size_t word_bytes);
+
+/* Give a stream of the coax code 5940 its next piece.
+ * The first `bits` bits of piece follow those held: their
+ * checks are added to the running ones. Only the stream
+ * is written.
+ * stream_bytes: 400.
+ * bits:         0 or more. With those held, at most
+ *               5,040.
+ * piece_bytes:  bits / 8, rounded up.
+ * Refusals, in order: 17, 12, 7, 2, 3, 6.
+ */
+uint64_t birdovesta_stream_piece_5940(
+    uint8_t *stream, size_t stream_bytes,
+    size_t bits,
+    const uint8_t *piece, size_t piece_bytes);
+
+/* Finish a stream of the coax code 5940.
+ * Writes the 900 parity bits of the payload held to the
+ * start of parity, and 0 in the 4 unused bits. Later
+ * bytes of parity are untouched. The stream is then the
+ * fresh one of this code.
+ * stream_bytes: 400. The bits held are 5,040.
+ * parity_bytes: at least 113.
+ * Refusals, in order: 17, 12, 7, 1, 5.
+ */
+uint64_t birdovesta_stream_finish_5940(
+    uint8_t *stream, size_t stream_bytes,
+    uint8_t *parity, size_t parity_bytes);
 
 #ifdef __cplusplus
 }

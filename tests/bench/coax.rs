@@ -7,28 +7,30 @@ use crate::random::Random;
 use crate::stream::Stream;
 use crate::{cut, each_piece, Bench, Call, Engine};
 
-/// What a call writes: the encoder's word, the word completed, the running checks, the parity.
+/// What a call writes: the encoder's word, the word completed, the stream's state, the parity.
 #[derive(Clone, PartialEq)]
 struct Written {
     word: Vec<u8>,
     completed: Vec<u8>,
-    checks: Vec<u8>,
+    state: Vec<u8>,
     parity: Vec<u8>,
 }
 
-/// A payload, its right word, its running checks, and its pieces for the call at hand, each from a new byte on.
+/// A payload, its right word, the state of a stream that holds it, and its pieces for the call at hand, each from a
+/// new byte on.
 struct Sample {
     payload: Vec<u8>,
     word: Vec<u8>,
-    checks: Vec<u8>,
+    state: Vec<u8>,
     pieces: Vec<u8>,
 }
 
-/// A code: the yardstick's, and the calls of both archives.
+/// A code: the yardstick's, the calls of both archives, and the state of a fresh stream.
 struct Both {
     code: Coax,
     host: archive::CoaxCalls,
     measured: measured::CoaxCalls,
+    fresh: Vec<u8>,
 }
 
 pub struct CoaxBench {
@@ -41,12 +43,17 @@ pub struct CoaxBench {
 
 /// The two codes, with so many words each.
 pub fn codes(words: usize) -> [CoaxBench; 2] {
-    let large = Both { code: Coax::code_16200(), host: archive::COAX_16200, measured: measured::COAX_16200 };
-    let small = Both { code: Coax::code_5940(), host: archive::COAX_5940, measured: measured::COAX_5940 };
+    let large = Both::new(Coax::code_16200(), archive::COAX_16200, measured::COAX_16200);
+    let small = Both::new(Coax::code_5940(), archive::COAX_5940, measured::COAX_5940);
     [CoaxBench::new(large, words), CoaxBench::new(small, words)]
 }
 
 impl Both {
+    fn new(code: Coax, host: archive::CoaxCalls, measured: measured::CoaxCalls) -> Both {
+        let fresh = Stream::fresh(code.number).state();
+        Both { code, host, measured, fresh }
+    }
+
     /// One call of the proved crates. A stream's answers are added up.
     fn call_ours(&self, call: Call, sample: &Sample, out: &mut Written) -> u64 {
         let bits = self.code.payload;
@@ -54,14 +61,14 @@ impl Both {
             Call::Encode => self.host.encode(bits, &sample.payload, &mut out.word),
             Call::Word => self.host.check(bits, &sample.word),
             Call::Complete => self.measured.complete(bits, &mut out.completed),
-            Call::Finish => self.measured.finish(bits, &mut out.checks, &mut out.parity),
+            Call::Finish => self.host.finish(&mut out.state, &mut out.parity),
             Call::Pieces(size) => {
                 let mut answers = 0;
-                out.checks.fill(0);
-                each_piece(&sample.pieces, bits, size, |held, count, bytes| {
-                    answers += self.measured.piece(held, &mut out.checks, count, bytes);
+                out.state.copy_from_slice(&self.fresh);
+                each_piece(&sample.pieces, bits, size, |count, bytes| {
+                    answers += self.host.piece(&mut out.state, count, bytes);
                 });
-                answers + self.measured.finish(bits, &mut out.checks, &mut out.parity)
+                answers + self.host.finish(&mut out.state, &mut out.parity)
             }
             Call::Line => panic!("a coax code has no line words"),
         }
@@ -79,13 +86,13 @@ impl Both {
             Call::Word => self.code.check(bits, &sample.word).number(),
             Call::Complete => self.code.complete(bits, &mut out.completed).number(),
             Call::Finish => {
-                let checks = std::mem::take(&mut out.checks);
-                self.finish_rust(Stream { held: bits, checks }, out)
+                let stream = Stream::read(&out.state).expect("a state has 400 bytes");
+                self.finish_rust(stream, out)
             }
             Call::Pieces(size) => {
                 let mut answers = 0;
-                let mut stream = Stream::fresh();
-                each_piece(&sample.pieces, bits, size, |_, count, bytes| {
+                let mut stream = Stream::fresh(self.code.number);
+                each_piece(&sample.pieces, bits, size, |count, bytes| {
                     answers += self.code.piece(&mut stream, count, bytes).number();
                 });
                 answers + self.finish_rust(stream, out)
@@ -97,22 +104,22 @@ impl Both {
     fn finish_rust(&self, mut stream: Stream, out: &mut Written) -> u64 {
         let (answer, parity) = self.code.finish(&mut stream, out.parity.len());
         out.parity[..parity.len()].copy_from_slice(&parity);
-        out.checks = stream.checks;
+        out.state = stream.state();
         answer.number()
     }
 
-    /// Whether both answer each piece alike and leave the same running checks after it.
+    /// Whether both answer each piece alike and leave the same state after it.
     fn pieces_same(&self, call: Call, sample: &Sample) -> bool {
         let size = match call {
             Call::Pieces(size) => size,
             _ => return true,
         };
-        let mut rust = Stream::fresh();
-        let mut ours = rust.checks.clone();
+        let mut rust = Stream::fresh(self.code.number);
+        let mut ours = self.fresh.clone();
         let mut same = true;
-        each_piece(&sample.pieces, self.code.payload, size, |held, count, bytes| {
-            let answer = self.measured.piece(held, &mut ours, count, bytes);
-            same &= answer == self.code.piece(&mut rust, count, bytes).number() && ours == rust.checks;
+        each_piece(&sample.pieces, self.code.payload, size, |count, bytes| {
+            let answer = self.host.piece(&mut ours, count, bytes);
+            same &= answer == self.code.piece(&mut rust, count, bytes).number() && ours == rust.state();
         });
         same
     }
@@ -126,15 +133,15 @@ impl CoaxBench {
         for _ in 0..words {
             let payload = random.bytes(code.payload / 8);
             let word = code.full_word(&payload);
-            let mut stream = Stream::fresh();
+            let mut stream = Stream::fresh(code.number);
             code.piece(&mut stream, code.payload, &payload);
-            samples.push(Sample { payload, word, checks: stream.checks, pieces: Vec::new() });
+            samples.push(Sample { payload, word, state: stream.state(), pieces: Vec::new() });
         }
         // Other bytes than any call leaves, so that a byte that is not written is found.
         let blank = Written {
             word: vec![165; code.word_bytes()],
             completed: vec![165; code.word_bytes()],
-            checks: vec![165; samples[0].checks.len()],
+            state: vec![165; samples[0].state.len()],
             parity: vec![165; code.parity_bytes()],
         };
         let ours = vec![blank; words];
@@ -173,7 +180,7 @@ impl Bench for CoaxBench {
                 sample.pieces = cut(&sample.payload, bits, size);
             }
             for out in [&mut self.ours[n], &mut self.rust[n]] {
-                out.checks.copy_from_slice(&sample.checks);
+                out.state.copy_from_slice(&sample.state);
                 // The parity that stands in a word to be completed is not the right one; its unused bits are 0.
                 out.completed.copy_from_slice(&sample.word);
                 out.completed[bits / 8..].fill(165);

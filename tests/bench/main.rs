@@ -37,7 +37,7 @@ use made_lists::Pair;
 use paper::*;
 use std::rc::Rc;
 use std::time::Instant;
-use stream::{Columns, Stream};
+use stream::{Columns, Stream, FIBRE};
 
 /// The words of a measurement; those of the fibre code in many pieces and in single bits, which take long, as each
 /// piece tests both lists; and those of a comparison alone.
@@ -89,21 +89,22 @@ const CALLS: [(&str, Call); 9] = [
     ("stream, single bits", Call::Pieces(1)),
 ];
 
-/// What a call writes: the line word, the full word, the running checks, the tail.
+/// What a call writes: the line word, the full word, the stream's state, the tail.
 #[derive(Clone, PartialEq)]
 struct Written {
     line: Vec<u8>,
     word: Vec<u8>,
-    checks: Vec<u8>,
+    state: Vec<u8>,
     tail: Vec<u8>,
 }
 
-/// A payload, its right words, its running checks, and its pieces for the call at hand, each from a new byte on.
+/// A payload, its right words, the state of a stream that holds it, and its pieces for the call at hand, each from a
+/// new byte on.
 struct Sample {
     payload: Vec<u8>,
     word: Vec<u8>,
     line: Vec<u8>,
-    checks: Vec<u8>,
+    state: Vec<u8>,
     pieces: Vec<u8>,
 }
 
@@ -123,11 +124,12 @@ struct Fibre {
     rust: Vec<Written>,
 }
 
-/// What the calls are made with.
+/// What the calls are made with, the state of a fresh stream among it.
 struct With {
     code: Rc<Code>,
     columns: Rc<Columns>,
     lists: Lists,
+    fresh: Vec<u8>,
 }
 
 /// The payload, of so many bits, in pieces of a size.
@@ -145,23 +147,21 @@ pub fn cut(payload: &[u8], bits: usize, size: usize) -> Vec<u8> {
     pieces
 }
 
-/// Calls what is given once for each piece: the bits held before it, its own, and its bytes.
-pub fn each_piece(pieces: &[u8], bits: usize, size: usize, mut take: impl FnMut(usize, usize, &[u8])) {
+/// Calls what is given once for each piece: its bits, and its bytes.
+pub fn each_piece(pieces: &[u8], bits: usize, size: usize, mut take: impl FnMut(usize, &[u8])) {
     for (n, bytes) in pieces.chunks(bytes_for(size)).enumerate() {
-        let held = n * size;
-        let count = size.min(bits - held);
-        take(held, count, &bytes[..bytes_for(count)]);
+        let count = size.min(bits - n * size);
+        take(count, &bytes[..bytes_for(count)]);
     }
 }
 
 impl With {
-    fn piece_ours(&self, held: usize, checks: &mut [u8], count: usize, bytes: &[u8]) -> u64 {
-        measured::piece(held, checks, count, bytes, &self.lists.first, &self.lists.second)
+    fn piece_ours(&self, state: &mut [u8], count: usize, bytes: &[u8]) -> u64 {
+        archive::piece(state, count, bytes, &self.lists.first, &self.lists.second)
     }
 
     fn finish_ours(&self, out: &mut Written) -> u64 {
-        let (first, second) = (&self.lists.first, &self.lists.second);
-        measured::finish(PAYLOAD_MOST, &mut out.checks, DELIMITER, first, second, &mut out.tail)
+        archive::finish(&mut out.state, DELIMITER, &self.lists.first, &self.lists.second, &mut out.tail)
     }
 
     /// One call of the proved crates. A stream's answers are added up.
@@ -175,9 +175,9 @@ impl With {
             Call::Finish => self.finish_ours(out),
             Call::Pieces(size) => {
                 let mut answers = 0;
-                out.checks.fill(0);
-                each_piece(&sample.pieces, PAYLOAD_MOST, size, |held, count, bytes| {
-                    answers += self.piece_ours(held, &mut out.checks, count, bytes);
+                out.state.copy_from_slice(&self.fresh);
+                each_piece(&sample.pieces, PAYLOAD_MOST, size, |count, bytes| {
+                    answers += self.piece_ours(&mut out.state, count, bytes);
                 });
                 answers + self.finish_ours(out)
             }
@@ -198,13 +198,13 @@ impl With {
             Call::Line => lists::check_line(code, lists, PAYLOAD_MOST, &sample.line, DELIMITER).number(),
             Call::Complete => lists::complete(code, lists, PAYLOAD_MOST, &mut out.word).number(),
             Call::Finish => {
-                let checks = std::mem::take(&mut out.checks);
-                self.finish_rust(Stream { held: PAYLOAD_MOST, checks }, out)
+                let stream = Stream::read(&out.state).expect("a state has 400 bytes");
+                self.finish_rust(stream, out)
             }
             Call::Pieces(size) => {
                 let mut answers = 0;
-                let mut stream = Stream::fresh();
-                each_piece(&sample.pieces, PAYLOAD_MOST, size, |_, count, bytes| {
+                let mut stream = Stream::fresh(FIBRE);
+                each_piece(&sample.pieces, PAYLOAD_MOST, size, |count, bytes| {
                     answers += lists::piece(&self.columns, lists, &mut stream, count, bytes).number();
                 });
                 answers + self.finish_rust(stream, out)
@@ -215,22 +215,22 @@ impl With {
     fn finish_rust(&self, mut stream: Stream, out: &mut Written) -> u64 {
         let (answer, tail) = lists::finish(&self.code, &self.lists, &mut stream, DELIMITER, out.tail.len());
         out.tail[..tail.len()].copy_from_slice(&tail);
-        out.checks = stream.checks;
+        out.state = stream.state();
         answer.number()
     }
 
-    /// Whether both answer a sample alike, by 0, and leave the same bytes. In a stream they take turns, and the running
-    /// checks are compared after each piece.
+    /// Whether both answer a sample alike, by 0, and leave the same bytes. In a stream they take turns, and the states
+    /// are compared after each piece.
     fn same(&self, call: Call, sample: &Sample, ours: &mut Written, rust: &mut Written) -> bool {
         let mut same = true;
         let answers = match call {
             Call::Pieces(size) => {
-                let mut stream = Stream::fresh();
-                ours.checks.fill(0);
-                each_piece(&sample.pieces, PAYLOAD_MOST, size, |held, count, bytes| {
-                    same &= self.piece_ours(held, &mut ours.checks, count, bytes) == 0;
+                let mut stream = Stream::fresh(FIBRE);
+                ours.state.copy_from_slice(&self.fresh);
+                each_piece(&sample.pieces, PAYLOAD_MOST, size, |count, bytes| {
+                    same &= self.piece_ours(&mut ours.state, count, bytes) == 0;
                     let answer = lists::piece(&self.columns, &self.lists, &mut stream, count, bytes);
-                    same &= answer == Answer::Fine && ours.checks == stream.checks;
+                    same &= answer == Answer::Fine && ours.state == stream.state();
                 });
                 (self.finish_ours(ours), self.finish_rust(stream, rust))
             }
@@ -251,20 +251,21 @@ impl Fibre {
             let word = code.full_word(PAYLOAD_PLACES, &inner);
             let outer = lists::outer_word(&code, &orders, PAYLOAD_MOST, &payload);
             let line = line_word(PAYLOAD_MOST, &outer, DELIMITER);
-            let mut stream = Stream::fresh();
+            let mut stream = Stream::fresh(FIBRE);
             lists::piece(&columns, &lists, &mut stream, PAYLOAD_MOST, &payload);
-            samples.push(Sample { payload, word, line, checks: stream.checks, pieces: Vec::new() });
+            samples.push(Sample { payload, word, line, state: stream.state(), pieces: Vec::new() });
         }
         // Other bytes than any call leaves, so that a byte that is not written is found.
         let blank = |sample: &Sample| Written {
             line: vec![165; sample.line.len()],
             word: vec![165; sample.word.len()],
-            checks: vec![165; sample.checks.len()],
+            state: vec![165; sample.state.len()],
             tail: vec![165; TAIL_BYTES],
         };
         let ours: Vec<Written> = samples.iter().map(blank).collect();
         let rust = ours.clone();
-        Fibre { name, with: With { code, columns, lists }, samples, ours, rust }
+        let with = With { code, columns, lists, fresh: Stream::fresh(FIBRE).state() };
+        Fibre { name, with, samples, ours, rust }
     }
 }
 
@@ -289,7 +290,7 @@ impl Bench for Fibre {
                 sample.pieces = cut(&sample.payload, PAYLOAD_MOST, size);
             }
             for out in [&mut self.ours[n], &mut self.rust[n]] {
-                out.checks.copy_from_slice(&sample.checks);
+                out.state.copy_from_slice(&sample.state);
                 // The parity that stands in a word to be completed is not the right one.
                 out.word.copy_from_slice(&sample.word);
                 out.word[PAYLOAD_PLACES / 8..].fill(165);

@@ -2,11 +2,12 @@
  * archive: the lessons of paper 01's sheet that go through
  * its calls, with the pair of lists that changes nothing; what
  * W2 says of other lists, and of lists at fault; lessons for
- * the coax codes of W8; and that nothing else is touched.
+ * the coax codes of W8; streams of all three codes, with what
+ * W9 says of them; and that nothing else is touched.
  *
- * Every expected value is from paper 01, W2 or, for the coax
- * codes, from W8 and source document 001. Each fact takes a
- * call's answer, and every byte of the three buffers and of
+ * Every expected value is from paper 01, W2, W9 or, for the
+ * coax codes, from W8 and source document 001. Each fact takes
+ * a call's answer, and every byte of the five buffers and of
  * both lists later, guard bytes on both sides included.
  *
  * Prints one fact a line, of at most 40 characters, and ends
@@ -27,7 +28,9 @@ enum {
     PAYLOAD_PLACES = 14592,
     PARITY_PLACES = 3072,
     SENT = 2560,
-    PUNCTURED = PARITY_PLACES - SENT
+    PUNCTURED = PARITY_PLACES - SENT,
+    STATE = BIRDOVESTA_STREAM_BYTES,
+    TAIL = BIRDOVESTA_TAIL_BYTES
 };
 
 /* A buffer is lent from byte GUARD on. */
@@ -36,8 +39,8 @@ struct buffer {
 };
 
 /* What is lent, and what it must hold after the call. */
-static struct buffer payload, word, line;
-static struct buffer payload_later, word_later, line_later;
+static struct buffer payload, word, line, piece, stream;
+static struct buffer payload_later, word_later, line_later, piece_later, stream_later;
 
 /* So is a list. What it must hold later is what was put
  * there: no call writes to a list. */
@@ -79,6 +82,8 @@ static void begin(void)
     fill(&payload, 11);
     fill(&word, 83);
     fill(&line, 170);
+    fill(&piece, 42);
+    fill(&stream, 129);
 }
 
 /* The line word of K 257, all unset, delimiter 1,023. */
@@ -95,6 +100,8 @@ static void nothing_changes(void)
     payload_later = payload;
     word_later = word;
     line_later = line;
+    piece_later = piece;
+    stream_later = stream;
 }
 
 static int list_right(const struct list *list)
@@ -107,7 +114,9 @@ static int bytes_right(void)
     return list_right(&first) && list_right(&second)
         && memcmp(&payload, &payload_later, sizeof payload) == 0
         && memcmp(&word, &word_later, sizeof word) == 0
-        && memcmp(&line, &line_later, sizeof line) == 0;
+        && memcmp(&line, &line_later, sizeof line) == 0
+        && memcmp(&piece, &piece_later, sizeof piece) == 0
+        && memcmp(&stream, &stream_later, sizeof stream) == 0;
 }
 
 static void fact(const char *text, int holds)
@@ -235,6 +244,65 @@ static uint64_t check_line(size_t bits, size_t bytes, size_t delimiter)
 {
     return birdovesta_check_line(bits, lent(&line), bytes, delimiter, first.all + GUARD, first.bytes,
         second.all + GUARD, second.bytes);
+}
+
+/* The calls of a stream, of each code: the stream's bytes, a
+ * piece of so many bits and bytes, and what a finish writes,
+ * to the line. */
+
+static uint64_t piece_fibre(size_t state, size_t bits, size_t bytes)
+{
+    return birdovesta_stream_piece(lent(&stream), state, bits, lent(&piece), bytes, first.all + GUARD, first.bytes,
+        second.all + GUARD, second.bytes);
+}
+
+static uint64_t finish_fibre(size_t state, size_t delimiter, size_t room)
+{
+    return birdovesta_stream_finish(lent(&stream), state, delimiter, first.all + GUARD, first.bytes,
+        second.all + GUARD, second.bytes, lent(&line), room);
+}
+
+static uint64_t piece_16200(size_t state, size_t bits, size_t bytes)
+{
+    return birdovesta_stream_piece_16200(lent(&stream), state, bits, lent(&piece), bytes);
+}
+
+static uint64_t finish_16200(size_t state, size_t delimiter, size_t room)
+{
+    (void)delimiter;
+    return birdovesta_stream_finish_16200(lent(&stream), state, lent(&line), room);
+}
+
+static uint64_t piece_5940(size_t state, size_t bits, size_t bytes)
+{
+    return birdovesta_stream_piece_5940(lent(&stream), state, bits, lent(&piece), bytes);
+}
+
+static uint64_t finish_5940(size_t state, size_t delimiter, size_t room)
+{
+    (void)delimiter;
+    return birdovesta_stream_finish_5940(lent(&stream), state, lent(&line), room);
+}
+
+static void put_number(struct buffer *buffer, size_t at, uint64_t number)
+{
+    for (size_t n = 0; n < 8; n++)
+        lent(buffer)[at + n] = (uint8_t)(number >> 8 * n);
+}
+
+/* A stream of so many bits, with checks that are all 0. With
+ * 0 bits it is the fresh one. */
+static void put_stream(struct buffer *buffer, uint64_t number, uint64_t held)
+{
+    zeros(buffer, STATE);
+    put_number(buffer, 0, number);
+    put_number(buffer, 8, held);
+}
+
+/* Inverts a running check of a stream. */
+static void flip_check(struct buffer *buffer, size_t check)
+{
+    flip(buffer, 8 * 16 + check);
 }
 
 /* Full words */
@@ -762,6 +830,65 @@ static int all_lines(uint64_t *answers)
     return kept && bytes_right();
 }
 
+/* A stream of so many bits; all else is as it is. */
+static void hold_some(uint64_t number, uint64_t held)
+{
+    put_stream(&stream, number, held);
+    nothing_changes();
+}
+
+static int all_pieces(uint64_t *answers)
+{
+    zeros(&piece, 40);
+    hold_some(1, LEAST + 100);
+    answers[0] = piece_fibre(STATE, 9, 2);
+    int kept = bytes_right();
+    hold_some(1, LEAST + 100);
+    answers[1] = piece_fibre(STATE, 9, 1);
+    answers[2] = piece_fibre(STATE, PAYLOAD_MOST, 1799);
+    answers[3] = piece_fibre(STATE, PAYLOAD_MOST, 1798);
+    kept &= bytes_right();
+    flip(&piece, 9);
+    hold_some(1, LEAST + 100);
+    answers[4] = piece_fibre(STATE, 9, 2);
+    kept &= bytes_right();
+    hold_some(1, PAYLOAD_MOST + 1);
+    answers[5] = piece_fibre(STATE, 9, 2);
+    kept &= bytes_right();
+    hold_some(2, LEAST);
+    answers[6] = piece_fibre(STATE, 8, 1);
+    kept &= bytes_right();
+    hold_some(2, PAYLOAD_MOST + 1);
+    answers[7] = piece_fibre(STATE, 9, 1);
+    return kept && bytes_right();
+}
+
+static int all_finishes(uint64_t *answers)
+{
+    hold_some(1, LEAST);
+    answers[0] = finish_fibre(STATE, 1023, TAIL);
+    int kept = bytes_right();
+    hold_some(1, LEAST);
+    answers[1] = finish_fibre(STATE, 1024, TAIL);
+    answers[2] = finish_fibre(STATE, 1023, TAIL - 1);
+    kept &= bytes_right();
+    hold_some(1, LEAST + 1);
+    answers[3] = finish_fibre(STATE, 1023, TAIL);
+    kept &= bytes_right();
+    hold_some(1, 0);
+    answers[4] = finish_fibre(STATE, 1023, TAIL);
+    kept &= bytes_right();
+    hold_some(1, PAYLOAD_MOST + 1);
+    answers[5] = finish_fibre(STATE, 1023, TAIL);
+    kept &= bytes_right();
+    hold_some(3, LEAST);
+    answers[6] = finish_fibre(STATE, 1023, TAIL);
+    kept &= bytes_right();
+    hold_some(0, PAYLOAD_MOST + 1);
+    answers[7] = finish_fibre(STATE, 1024, 0);
+    return kept && bytes_right();
+}
+
 static const struct {
     const char *name;
     int (*make)(uint64_t *answers);
@@ -771,6 +898,8 @@ static const struct {
     { "check_word", all_words,
         { 0, 1, 10, 2, 1, VERDICT(BIRDOVESTA_CHECK, 6, 176), VERDICT(BIRDOVESTA_SHORTENED, 0, 14591), 10 } },
     { "check_line", all_lines, { 0, 1, 10, 2, 4, VERDICT(BIRDOVESTA_DELIMITER, 0, 0), 3, 1 } },
+    { "piece", all_pieces, { 0, 2, 6, 2, 3, 7, 12, 12 } },
+    { "finish", all_finishes, { 0, 4, 5, 10, 1, 7, 12, 12 } },
 };
 
 /* Each of these calls is refused by 16, whatever else is at
@@ -794,8 +923,8 @@ static void all_refused(const char *list, const char *fault)
 
 static void lists_at_fault(void)
 {
-    /* The same calls with the plain pair. The encoder's first
-     * one writes. */
+    /* The same calls with the plain pair. The first one of the
+     * encoder, of a piece and of a finish writes. */
     put_lists(plain);
     for (size_t n = 0; n < sizeof calls / sizeof *calls; n++) {
         uint64_t answers[8];
@@ -1010,6 +1139,328 @@ static void coax_lessons(void)
     }
 }
 
+/* Streams */
+
+/* A place, and the checks that it is in. */
+struct in_checks {
+    size_t place, count, checks[6];
+};
+
+static const struct served {
+    const char *name;
+    uint64_t number;
+    size_t most, in_use, needed;
+    uint64_t (*piece)(size_t, size_t, size_t);
+    uint64_t (*finish)(size_t, size_t, size_t);
+    /* From the sheet, or from the tables. */
+    struct in_checks places[4];
+} served[] = {
+    { "fibre", 1, 14392, 3072, TAIL, piece_fibre, finish_fibre,
+        { { 0, 6, { 176, 919, 1655, 2304, 2607, 3019 } }, { 255, 6, { 175, 918, 1654, 2559, 2606, 3018 } },
+            { 256, 6, { 256, 677, 1110, 1490, 1930, 2096 } }, { 14391, 3, { 311, 1214, 2677 } } } },
+    { "16200", 2, 14400, 1800, BIRDOVESTA_PARITY_16200_BYTES, piece_16200, finish_16200,
+        { { 0, 4, { 267, 446, 946, 1547 } }, { 14399, 4, { 199, 690, 1016, 1741 } } } },
+    { "5940", 3, 5040, 900, BIRDOVESTA_PARITY_5940_BYTES, piece_5940, finish_5940,
+        { { 0, 5, { 38, 306, 477, 692, 848 } }, { 5039, 4, { 275, 401, 701, 738 } } } },
+};
+
+enum { SERVED = sizeof served / sizeof *served };
+
+/* A fact of a code's streams: its name goes before the text. */
+static void told_stream(const struct served *code, const char *text, uint64_t answer, uint64_t expected)
+{
+    char named[120];
+    snprintf(named, sizeof named, "%s, %s", code->name, text);
+    told(named, answer, expected);
+}
+
+/* The same of a fact that several calls make up. */
+static void fact_stream(const struct served *code, const char *text, int holds)
+{
+    char named[120];
+    snprintf(named, sizeof named, "%s, %s", code->name, text);
+    fact(named, holds);
+}
+
+/* So many bits of the payload, from a place on, are the next
+ * piece. */
+static void put_piece(size_t from, size_t bits)
+{
+    zeros(&piece, (bits + 7) / 8);
+    for (size_t place = 0; place < bits; place++)
+        if (bit(&payload, from + place))
+            flip(&piece, place);
+}
+
+/* New contents, with a stream. */
+static void begin_stream(const struct served *code, uint64_t held)
+{
+    begin();
+    put_stream(&stream, code->number, held);
+    nothing_changes();
+}
+
+/* Zeros up to a place, then a 1 there: the checks held are
+ * those that the place is in. */
+static void single_places(const struct served *code)
+{
+    for (size_t n = 0; n < 4 && code->places[n].count > 0; n++) {
+        const struct in_checks *place = &code->places[n];
+        char text[80];
+        begin_stream(code, 0);
+        zeros(&piece, (place->place + 7) / 8);
+        nothing_changes();
+        put_stream(&stream_later, code->number, place->place);
+        snprintf(text, sizeof text, "%zu bits of 0 held", place->place);
+        told_stream(code, text, code->piece(STATE, place->place, (place->place + 7) / 8), 0);
+
+        lent(&piece)[0] = 1;
+        nothing_changes();
+        put_stream(&stream_later, code->number, place->place + 1);
+        for (size_t m = 0; m < place->count; m++)
+            flip_check(&stream_later, place->checks[m]);
+        snprintf(text, sizeof text, "bit %zu in its %zu checks", place->place, place->count);
+        told_stream(code, text, code->piece(STATE, 1, 1), 0);
+    }
+}
+
+/* Feeds the payload of so many bits in pieces of several
+ * sizes. Whether all are held, and no other byte has moved. */
+static int feed(const struct served *code, size_t bits)
+{
+    static const size_t sizes[] = { 1, 7, 256, 0, 257, 8, 1799, 13, 360, 4096 };
+    int all = 1;
+    for (size_t held = 0, n = 0; held < bits; n++) {
+        size_t size = sizes[n % (sizeof sizes / sizeof *sizes)];
+        if (size > bits - held)
+            size = bits - held;
+        put_piece(held, size);
+        nothing_changes();
+        all &= code->piece(STATE, size, (size + 7) / 8) == 0;
+        /* Number and count are told by the paper, the checks by the finish. */
+        held += size;
+        memcpy(lent(&stream_later), lent(&stream), STATE);
+        put_number(&stream_later, 0, code->number);
+        put_number(&stream_later, 8, held);
+        all &= bytes_right();
+    }
+    return all;
+}
+
+/* A payload in pieces, beside the line word that the encoder
+ * writes of it; a second one goes to the stream that is handed
+ * back. */
+static void fibre_streams(const char *name)
+{
+    const struct served *code = &served[0];
+    static struct buffer encoded;
+    char text[80];
+    int fed = 1, finished = 1, same = 1;
+    begin();
+    put_stream(&stream, 1, 0);
+    for (size_t bits = LEAST; bits <= PAYLOAD_MOST; bits += 11 * LEAST) {
+        size_t delimiter = bits * 77 % 1024;
+        struct buffer kept = stream;
+        begin_payload(bits);
+        stream = kept;
+        fed &= encode(bits, (bits + 7) / 8, delimiter, MOST) == 0;
+        encoded = line;
+        fed &= feed(code, bits);
+        fill(&line, 97);
+        nothing_changes();
+        finished &= finish_fibre(STATE, delimiter, MOST) == 0;
+        for (size_t place = 0; place < SENT + 10; place++)
+            same &= bit(&line, place) == bit(&encoded, bits + place);
+        memcpy(lent(&line_later), lent(&line), TAIL);
+        same &= lent(&line)[TAIL - 1] < 4;
+        put_stream(&stream_later, 1, 0);
+        finished &= bytes_right();
+    }
+    snprintf(text, sizeof text, "%s: pieces held", name);
+    fact(text, fed);
+    snprintf(text, sizeof text, "%s: encoder's tail", name);
+    fact(text, same);
+    snprintf(text, sizeof text, "%s: fresh again", name);
+    fact(text, finished);
+}
+
+/* The same for a coax code, twice on one stream. Before it is
+ * finished, each call of another code refuses it. */
+static void coax_stream(const struct served *code, const struct coax *coax)
+{
+    static struct buffer encoded;
+    size_t bits = code->most;
+    begin_stream(code, 0);
+    for (unsigned turn = 0; turn < 2; turn++) {
+        fill(&payload, 60 + turn);
+        fact_stream(code, turn ? "second payload held" : "payload held",
+            encode_coax(coax, bits, bits / 8, MOST) == 0 && feed(code, bits));
+        encoded = word;
+        nothing_changes();
+        for (size_t n = 0; n < SERVED; n++)
+            if (&served[n] != code) {
+                char text[80];
+                snprintf(text, sizeof text, "ended as %s: refusal 12", served[n].name);
+                told_stream(code, text, served[n].finish(STATE, 0, MOST), 12);
+                told_stream(code, "and with no room", served[n].finish(STATE, 0, 0), 12);
+                told_stream(code, "and by a piece of 0 bits", served[n].piece(STATE, 0, 0), 12);
+            }
+        memcpy(lent(&line_later), lent(&encoded) + bits / 8, code->needed);
+        put_stream(&stream_later, code->number, 0);
+        told_stream(code, "encoder's parity, fresh", code->finish(STATE, 0, MOST), 0);
+    }
+}
+
+/* What the sheet says of streams, and W8 and W9. */
+static void stream_lessons(const struct served *code)
+{
+    begin_stream(code, 0);
+    told_stream(code, "fresh, finish: refusal 1", code->finish(STATE, 1024, 0), 1);
+    told_stream(code, "fresh, 0 bits held", code->piece(STATE, 0, 0), 0);
+
+    begin_stream(code, code->most);
+    lent(&piece)[0] = 1;
+    nothing_changes();
+    told_stream(code, "full, piece of 0 bits held", code->piece(STATE, 0, 0), 0);
+    told_stream(code, "full, 1 bit: refusal 6", code->piece(STATE, 1, 1), 6);
+    told_stream(code, "no bytes: refusal 2", code->piece(STATE, 1, 0), 2);
+    lent(&piece)[0] = 2;
+    nothing_changes();
+    told_stream(code, "unused bit: refusal 3", code->piece(STATE, 1, 1), 3);
+    told_stream(code, "room - 1: refusal 5", code->finish(STATE, 0, code->needed - 1), 5);
+    told_stream(code, "room 0: refusal 5", code->finish(STATE, 0, 0), 5);
+
+    /* Checks that are all 0 have a parity of zeros. */
+    zeros(&line_later, code->needed);
+    if (code->number == 1)
+        memcpy(lent(&line_later) + 320, "\xFF\x03", 2);
+    put_stream(&stream_later, code->number, 0);
+    told_stream(code, "full of 0: zeros, fresh", code->finish(STATE, 1023, code->needed), 0);
+    nothing_changes();
+    told_stream(code, "finish again: refusal 1", code->finish(STATE, 1023, code->needed), 1);
+
+    /* Another count than can be finished. */
+    begin_stream(code, LEAST - 1);
+    told_stream(code, "finish at 256 bits", code->finish(STATE, 1024, 0), code->number == 1 ? 10 : 1);
+    begin_stream(code, code->most - 1);
+    told_stream(code, "finish with 1 bit less", code->finish(STATE, 1024, 0), code->number == 1 ? 10 : 1);
+    begin_stream(code, 19 * LEAST);
+    told_stream(code, "finish at 19 data blocks", code->finish(STATE, 1024, 0), code->number == 1 ? 4 : 1);
+}
+
+/* Each call refuses the stream, whatever else is at fault, and
+ * no byte is moved. */
+static int stream_refused(const struct served *code, size_t state, uint64_t number)
+{
+    nothing_changes();
+    return code->piece(state, 0, 0) == number && code->piece(state, 8, 1) == number
+        && code->piece(state, 8, 0) == number && code->piece(state, 16000, 2000) == number
+        && code->finish(state, 0, MOST) == number && code->finish(state, 1024, MOST) == number
+        && code->finish(state, 0, 0) == number && bytes_right();
+}
+
+/* The state's own faults: the number, then what is held. */
+static void states_at_fault(const struct served *code)
+{
+    static const uint64_t unknown[] = { 0, 4, 255, 256, 1ull << 32, 1ull << 63, UINT64_MAX };
+    static const uint64_t held[] = { 0, 257, 5040, 14392, 14400, 14401, UINT64_MAX };
+    int all = 1, others = 1, high = 1, counts = 1, past = 1, used = 1;
+    for (size_t n = 0; n < sizeof held / sizeof *held; n++) {
+        for (size_t m = 0; m < sizeof unknown / sizeof *unknown; m++) {
+            begin_stream(code, held[n]);
+            put_number(&stream, 0, unknown[m]);
+            all &= stream_refused(code, STATE, 12);
+        }
+        for (size_t m = 0; m < SERVED; m++) {
+            begin_stream(&served[m], held[n]);
+            others &= &served[m] == code || stream_refused(code, STATE, 12);
+        }
+        for (size_t byte = 1; byte < 8; byte++) {
+            begin_stream(code, held[n]);
+            lent(&stream)[byte] = 1;
+            high &= stream_refused(code, STATE, 12);
+        }
+    }
+    fact_stream(code, "unknown number: refusal 12", all);
+    fact_stream(code, "other codes: refusal 12", others);
+    fact_stream(code, "high byte more: refusal 12", high);
+
+    begin_stream(code, code->most + 1);
+    counts &= stream_refused(code, STATE, 7);
+    for (size_t byte = 2; byte < 8; byte++) {
+        begin_stream(code, LEAST);
+        lent(&stream)[8 + byte] = 128;
+        counts &= stream_refused(code, STATE, 7);
+    }
+    begin_stream(code, UINT64_MAX);
+    counts &= stream_refused(code, STATE, 7);
+    fact_stream(code, "too many held: refusal 7", counts);
+
+    for (size_t check = 0; check < 3072; check++) {
+        begin_stream(code, 100);
+        flip_check(&stream, check);
+        if (check >= code->in_use) {
+            past &= stream_refused(code, STATE, 7);
+            continue;
+        }
+        nothing_changes();
+        used &= code->piece(STATE, 0, 0) == 0 && bytes_right();
+    }
+    fact_stream(code, "each check in use may be 1", used);
+    if (code->in_use < 3072)
+        fact_stream(code, "past them a 1: refusal 7", past);
+
+    /* All at once. */
+    begin_stream(code, 100);
+    for (size_t check = 0; check < code->in_use; check++)
+        flip_check(&stream, check);
+    nothing_changes();
+    told_stream(code, "all of them may be 1", code->piece(STATE, 0, 0), 0);
+
+    begin_stream(code, code->most + 1);
+    put_number(&stream, 0, 4);
+    fact_stream(code, "12 goes before 7", stream_refused(code, STATE, 12));
+}
+
+/* A stream of another size, whatever its bytes say. */
+static void other_sizes(const struct served *code)
+{
+    static const size_t sizes[] = { 0, 1, 8, 16, 384, 399, 401, 448, 656, 800 };
+    int all = 1, spoilt = 1, lists = 1;
+    for (size_t n = 0; n < sizeof sizes / sizeof *sizes; n++) {
+        begin_stream(code, LEAST);
+        all &= stream_refused(code, sizes[n], 17);
+        begin_stream(code, code->most + 1);
+        put_number(&stream, 0, 0);
+        spoilt &= stream_refused(code, sizes[n], 17);
+        begin_stream(code, LEAST);
+        be_empty(&first);
+        lists &= stream_refused(code, sizes[n], 17);
+        put_lists(plain);
+    }
+    fact_stream(code, "other sizes: refusal 17", all);
+    fact_stream(code, "17 goes before 12 and 7", spoilt);
+    if (code->number == 1)
+        fact_stream(code, "17 goes before 16", lists);
+}
+
+static void streams(void)
+{
+    for (size_t n = 0; n < SERVED; n++) {
+        single_places(&served[n]);
+        stream_lessons(&served[n]);
+        states_at_fault(&served[n]);
+        other_sizes(&served[n]);
+    }
+    fibre_streams("stream");
+    shuffle(&first);
+    shuffle(&second);
+    fibre_streams("stream, shuffled");
+    put_lists(plain);
+    for (size_t n = 1; n < SERVED; n++)
+        coax_stream(&served[n], &coax_codes[n - 1]);
+}
+
 int main(void)
 {
     put_lists(plain);
@@ -1020,6 +1471,7 @@ int main(void)
     other_lists();
     lists_at_fault();
     coax_lessons();
+    streams();
     printf("%u right, %u wrong\n", right, wrong);
     return wrong > 0;
 }

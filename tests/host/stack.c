@@ -12,7 +12,9 @@
  *
  * The inputs lead to every kind of answer, for each K with two
  * pairs of lists and for each coax code. What must be answered
- * is from paper 01, W2 and W8, and is compared too.
+ * is from paper 01, W2, W8 and W9, and is compared too. A call
+ * of a stream is made several times with one input, so the
+ * state is put anew before each.
  *
  * Prints one fact a line, of at most 40 characters, and ends
  * with `N right, M wrong`. Exit status 1 if any is wrong.
@@ -32,7 +34,8 @@ enum {
     PLACES = 17664,
     PARITY_PLACES = PLACES - PAYLOAD_PLACES,
     SENT = 2560,
-    MOST = 2304 /* the most bytes lent */
+    MOST = 2304, /* the most bytes lent */
+    CHECKS_FROM = 16 /* the running checks in a state */
 };
 
 static unsigned right, wrong;
@@ -54,6 +57,11 @@ static size_t bits, bytes, delimiter, room;
 static size_t first_bytes = sizeof first, second_bytes = sizeof second;
 static uint64_t answer;
 
+/* A stream's state, and what it is before each call; the bits
+ * of a piece. */
+static uint8_t stream[MOST], state[MOST];
+static size_t stream_bytes = BIRDOVESTA_STREAM_BYTES, count;
+
 static void nothing(void)
 {
     answer = 0;
@@ -74,13 +82,32 @@ static void check_line(void)
     answer = birdovesta_check_line(bits, line, bytes, delimiter, first, first_bytes, second, second_bytes);
 }
 
+static void piece(void)
+{
+    memcpy(stream, state, sizeof stream);
+    answer = birdovesta_stream_piece(
+        stream, stream_bytes, count, payload, bytes, first, first_bytes, second, second_bytes);
+}
+
+static void finish(void)
+{
+    memcpy(stream, state, sizeof stream);
+    answer = birdovesta_stream_finish(
+        stream, stream_bytes, delimiter, first, first_bytes, second, second_bytes, line, room);
+}
+
 static const struct coax {
-    size_t payload_bits, places, word_bytes;
+    uint64_t number;
+    size_t payload_bits, places, word_bytes, parity_bytes;
     uint64_t (*encode)(size_t, const uint8_t *, size_t, uint8_t *, size_t);
     uint64_t (*check)(size_t, const uint8_t *, size_t);
+    uint64_t (*piece)(uint8_t *, size_t, size_t, const uint8_t *, size_t);
+    uint64_t (*finish)(uint8_t *, size_t, uint8_t *, size_t);
 } coax_codes[] = {
-    { 14400, 16200, BIRDOVESTA_WORD_16200_BYTES, birdovesta_encode_16200, birdovesta_check_16200 },
-    { 5040, 5940, BIRDOVESTA_WORD_5940_BYTES, birdovesta_encode_5940, birdovesta_check_5940 },
+    { 2, 14400, 16200, BIRDOVESTA_WORD_16200_BYTES, BIRDOVESTA_PARITY_16200_BYTES, birdovesta_encode_16200,
+        birdovesta_check_16200, birdovesta_stream_piece_16200, birdovesta_stream_finish_16200 },
+    { 3, 5040, 5940, BIRDOVESTA_WORD_5940_BYTES, BIRDOVESTA_PARITY_5940_BYTES, birdovesta_encode_5940,
+        birdovesta_check_5940, birdovesta_stream_piece_5940, birdovesta_stream_finish_5940 },
 }, *code;
 
 static void encode_coax(void)
@@ -91,6 +118,18 @@ static void encode_coax(void)
 static void check_coax(void)
 {
     answer = code->check(bits, word, bytes);
+}
+
+static void piece_coax(void)
+{
+    memcpy(stream, state, sizeof stream);
+    answer = code->piece(stream, stream_bytes, count, payload, bytes);
+}
+
+static void finish_coax(void)
+{
+    memcpy(stream, state, sizeof stream);
+    answer = code->finish(stream, stream_bytes, line, room);
 }
 
 /* Measuring */
@@ -148,9 +187,13 @@ struct measured {
 static struct measured of_encode = { "encode", encode, BIRDOVESTA_ENCODE_STACK, 0, 0, 0 };
 static struct measured of_word = { "check_word", check_word, BIRDOVESTA_CHECK_WORD_STACK, 0, 0, 0 };
 static struct measured of_line = { "check_line", check_line, BIRDOVESTA_CHECK_LINE_STACK, 0, 0, 0 };
+static struct measured of_piece = { "piece", piece, BIRDOVESTA_PIECE_STACK, 0, 0, 0 };
+static struct measured of_finish = { "finish", finish, BIRDOVESTA_FINISH_STACK, 0, 0, 0 };
 
 static struct measured of_encode_coax = { "encode_coax", encode_coax, BIRDOVESTA_ENCODE_COAX_STACK, 0, 0, 0 };
 static struct measured of_check_coax = { "check_coax", check_coax, BIRDOVESTA_CHECK_COAX_STACK, 0, 0, 0 };
+static struct measured of_piece_coax = { "piece_coax", piece_coax, BIRDOVESTA_PIECE_COAX_STACK, 0, 0, 0 };
+static struct measured of_finish_coax = { "finish_coax", finish_coax, BIRDOVESTA_FINISH_COAX_STACK, 0, 0, 0 };
 
 /* A cause as it stands in an answer; count and place are left open. */
 static uint64_t cause(uint64_t number)
@@ -187,15 +230,43 @@ static void fill(uint8_t *lent, size_t count)
     }
 }
 
-/* A payload of K bits: zeros, ones, or any. */
-static void put_payload(int kind)
+/* A run of so many bits: zeros, ones, or any. */
+static void put_run(int kind, size_t run)
 {
-    bytes = (bits + 7) / 8;
+    bytes = (run + 7) / 8;
     memset(payload, kind == 0 ? 0 : 255, sizeof payload);
     if (kind == 2)
         fill(payload, bytes);
-    for (size_t place = bits; place < 8 * bytes; place++)
+    for (size_t place = run; place < 8 * bytes; place++)
         payload[place / 8] &= (uint8_t)~(1u << place % 8);
+}
+
+/* A payload of K bits. */
+static void put_payload(int kind)
+{
+    put_run(kind, bits);
+}
+
+/* A piece. */
+static void put_piece(int kind, size_t run)
+{
+    put_run(kind, run);
+    count = run;
+}
+
+/* A stream: its code's number, the bits held, and the whole
+ * bytes of running checks in use: zeros, ones, or any. */
+static void put_state(uint64_t number, uint64_t held, int kind, size_t in_use)
+{
+    memset(state, 0, sizeof state);
+    for (size_t n = 0; n < 8; n++) {
+        state[n] = (uint8_t)(number >> 8 * n);
+        state[8 + n] = (uint8_t)(held >> 8 * n);
+    }
+    if (kind == 1)
+        memset(state + CHECKS_FROM, 255, in_use / 8);
+    if (kind == 2)
+        fill(state + CHECKS_FROM, in_use / 8);
 }
 
 /* Lists */
@@ -341,6 +412,72 @@ static void line_words(void)
     lists_at_fault(&of_line);
 }
 
+/* Each call with a stream that it refuses, by its size, by its
+ * number and by its bits held. */
+static void streams_at_fault(struct measured *of, uint64_t number, uint64_t most)
+{
+    stream_bytes--;
+    input(of, 17);
+    stream_bytes += 2;
+    input(of, 17);
+    stream_bytes--;
+    put_state(number % 3 + 1, most + 1, 2, PARITY_PLACES);
+    input(of, 12);
+    put_state(UINT64_MAX, UINT64_MAX, 1, PARITY_PLACES);
+    input(of, 12);
+    put_state(number, most + 1, 0, 0);
+    input(of, 7);
+    put_state(number, UINT64_MAX, 1, PARITY_PLACES);
+    input(of, 7);
+}
+
+static void pieces(void)
+{
+    /* Whole, and from a place on. */
+    for (int kind = 0; kind < 3; kind++) {
+        put_state(1, 0, 0, 0);
+        put_piece(kind, bits);
+        input(&of_piece, 0);
+        put_state(1, bits / 3, kind, PARITY_PLACES);
+        put_piece(kind, bits - bits / 3);
+        input(&of_piece, 0);
+    }
+    put_state(1, bits, 2, PARITY_PLACES);
+    put_piece(0, 0);
+    input(&of_piece, 0);
+    put_piece(1, PAYLOAD_MOST - bits + 1);
+    input(&of_piece, 6);
+    put_piece(1, 9);
+    flip(payload, 9);
+    input(&of_piece, 3);
+    bytes++;
+    input(&of_piece, 2);
+    streams_at_fault(&of_piece, 1, PAYLOAD_MOST);
+    lists_at_fault(&of_piece);
+}
+
+static void finishes(void)
+{
+    for (int kind = 0; kind < 3; kind++) {
+        put_state(1, bits, kind, PARITY_PLACES);
+        delimiter = kind == 0 ? 0 : 1023;
+        room = BIRDOVESTA_TAIL_BYTES;
+        input(&of_finish, 0);
+        room = MOST;
+        input(&of_finish, 0);
+    }
+    room = BIRDOVESTA_TAIL_BYTES - 1;
+    input(&of_finish, 5);
+    delimiter = 1024;
+    input(&of_finish, 4);
+    put_state(1, bits - 1, 2, PARITY_PLACES);
+    input(&of_finish, 10);
+    put_state(1, 0, 2, PARITY_PLACES);
+    input(&of_finish, 1);
+    streams_at_fault(&of_finish, 1, PAYLOAD_MOST);
+    lists_at_fault(&of_finish);
+}
+
 static void coax_encodings(void)
 {
     size_t needed = code->word_bytes;
@@ -391,6 +528,59 @@ static void coax_words(void)
     input(&of_check_coax, 1);
 }
 
+/* The places past the checks in use: the first, the last. */
+static void checks_past(struct measured *of)
+{
+    size_t in_use = code->places - code->payload_bits;
+    for (size_t past = in_use; past < PARITY_PLACES; past += PARITY_PLACES - 1 - in_use) {
+        put_state(code->number, code->payload_bits, 2, in_use);
+        flip(state + CHECKS_FROM, past);
+        input(of, 7);
+    }
+}
+
+static void coax_pieces(void)
+{
+    size_t most = code->payload_bits, in_use = code->places - most;
+    for (int kind = 0; kind < 3; kind++) {
+        put_state(code->number, 0, 0, 0);
+        put_piece(kind, most);
+        input(&of_piece_coax, 0);
+        put_state(code->number, most / 3 + 1, kind, in_use);
+        put_piece(kind, most - most / 3 - 1);
+        input(&of_piece_coax, 0);
+    }
+    put_state(code->number, most, 2, in_use);
+    put_piece(0, 0);
+    input(&of_piece_coax, 0);
+    put_piece(1, 1);
+    input(&of_piece_coax, 6);
+    flip(payload, 1);
+    input(&of_piece_coax, 3);
+    bytes++;
+    input(&of_piece_coax, 2);
+    checks_past(&of_piece_coax);
+    streams_at_fault(&of_piece_coax, code->number, most);
+}
+
+static void coax_finishes(void)
+{
+    size_t most = code->payload_bits, in_use = code->places - most;
+    for (int kind = 0; kind < 3; kind++) {
+        put_state(code->number, most, kind, in_use);
+        room = code->parity_bytes;
+        input(&of_finish_coax, 0);
+        room = MOST;
+        input(&of_finish_coax, 0);
+    }
+    room = code->parity_bytes - 1;
+    input(&of_finish_coax, 5);
+    put_state(code->number, most - 1, 2, in_use);
+    input(&of_finish_coax, 1);
+    checks_past(&of_finish_coax);
+    streams_at_fault(&of_finish_coax, code->number, most);
+}
+
 static void facts(const struct measured *of)
 {
     char text[80];
@@ -415,6 +605,8 @@ int main(void)
             encodings();
             full_words();
             line_words();
+            pieces();
+            finishes();
         }
     bits = 0;
     input(&of_encode, 1);
@@ -423,12 +615,18 @@ int main(void)
     for (code = coax_codes; code < coax_codes + sizeof coax_codes / sizeof *coax_codes; code++) {
         coax_encodings();
         coax_words();
+        coax_pieces();
+        coax_finishes();
     }
     facts(&of_encode);
     facts(&of_word);
     facts(&of_line);
+    facts(&of_piece);
+    facts(&of_finish);
     facts(&of_encode_coax);
     facts(&of_check_coax);
+    facts(&of_piece_coax);
+    facts(&of_finish_coax);
     printf("%u right, %u wrong\n", right, wrong);
     return wrong > 0;
 }

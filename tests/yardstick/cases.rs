@@ -2,6 +2,7 @@
 //!
 //!   Lent            bytes to be lent, with guard bytes on both sides
 //!   LentLists       the two lists, lent like this to be read
+//!   State           a stream's state, the yardstick's and the one that is lent like this
 //!   Cases           what was reached, how many cases there were, and how many were wrong
 //!   Cases::judge, compare   one case, by its answer or by its number alone
 //!   Cases::end      says all that, and ends the program
@@ -11,9 +12,12 @@
 //!   faulty_word, other_count                    those of a coax code
 //!   any_count, faulty_count, faulty_delimiter   those of the fibre code
 //!   too_many_held, faulty_counts                those of a stream
+//!   other_numbers, counts_too_large, OTHER_SIZES    what a stream's state must not have
+//!   faulty_state                                such a state
 
 use crate::paper::*;
 use crate::random::Random;
+use crate::stream::Stream;
 
 pub const GUARD: usize = 64;
 const SEED: u64 = 142;
@@ -65,6 +69,47 @@ impl LentLists {
 
     pub fn same(&self) -> bool {
         self.first.all == self.before[0] && self.second.all == self.before[1]
+    }
+}
+
+/// After each call every byte of the lent one is compared.
+pub struct State {
+    pub ours: Vec<u8>,
+    lent: Lent,
+}
+
+impl State {
+    pub fn new(random: &mut Random, ours: Vec<u8>) -> State {
+        let lent = Lent::new(random, &ours);
+        State { ours, lent }
+    }
+
+    /// 0 where it has another size.
+    pub fn held(&self) -> usize {
+        Stream::read(&self.ours).map_or(0, |stream| stream.held)
+    }
+
+    /// Whether it is the fresh one of the code with this number, byte by byte.
+    pub fn is_fresh(&self, number: u8) -> bool {
+        let mut fresh = [0; 400];
+        fresh[0] = number;
+        self.ours == fresh
+    }
+
+    /// The host writes to it.
+    pub fn put(&mut self, bytes: Vec<u8>) {
+        self.lent.all = self.lent.with(&bytes);
+        self.ours = bytes;
+    }
+
+    /// A call on the lent one, made when ours is as it must be later: what is told, and whether each byte is as it must
+    /// be. A difference is told once, and not at every later call.
+    pub fn call(&mut self, call: impl FnOnce(&mut [u8]) -> u64) -> (u64, bool) {
+        let later = self.lent.with(&self.ours);
+        let told = call(self.lent.part());
+        let same = self.lent.all == later;
+        self.lent.all = later;
+        (told, same)
     }
 }
 
@@ -318,14 +363,56 @@ pub fn faulty_delimiter(random: &mut Random, faults: &[u64]) -> usize {
 
 /// A count of bits held that is above the payload's most.
 pub fn too_many_held(random: &mut Random, most: usize) -> usize {
-    match random.below(6) {
+    match random.below(8) {
         0 => most + 1,
         1 => most + 1 + random.below(4000),
         2 => (1 << 16) + random.below(most + 1),
         3 => (1 << 32) + random.below(most + 1),
         4 => (1 << 63) + random.below(most + 1),
-        _ => usize::MAX - random.below(100),
+        5 => usize::MAX - random.below(100),
+        _ => {
+            let counts = counts_too_large(most);
+            counts[random.below(counts.len())]
+        }
     }
+}
+
+/// Such counts: just above, the sizes of other codes, those that are allowed but for any one high bit, the largest.
+pub fn counts_too_large(most: usize) -> Vec<usize> {
+    let mut counts = vec![most + 1, most + 8, most + DATA_BLOCK, 14392, 14393, 14400, 14401, 14592];
+    counts.extend((0..64).flat_map(|at| [1 << at, (1 << at) + DATA_BLOCK, (1 << at) + most]));
+    counts.extend([usize::MAX - most, usize::MAX - 1, usize::MAX]);
+    counts.retain(|&count| count > most);
+    counts
+}
+
+/// Code numbers that are not the right one: the other codes', unknown ones, and the right one with any bit inverted, so
+/// also with another high byte alone.
+pub fn other_numbers(right: u64) -> Vec<u64> {
+    let mut numbers = vec![1, 2, 3, 0, 4, 255, 256, 257, (1 << 32) + 1, (1 << 56) + 1, 1 << 63, u64::MAX];
+    numbers.extend((0..64).map(|at| right ^ 1 << at));
+    numbers.retain(|&number| number != right);
+    numbers
+}
+
+/// Sizes that a state must not have: some of its parts', near 400, and 400 where only some bits of it are looked at.
+pub const OTHER_SIZES: [usize; 14] = [0, 1, 8, 16, 225, 383, 384, 385, 399, 401, 448, 656, 800, 65936];
+
+/// The state of a stream, with a number that is not its own if faults has 12, and cut off or made longer if it has 17.
+/// Where it is not cut off, its other faults are still to be seen in it.
+pub fn faulty_state(random: &mut Random, faults: &[u64], mut stream: Stream) -> Vec<u8> {
+    if faults.contains(&12) {
+        let numbers = other_numbers(stream.number);
+        // the two other codes' come first
+        let choice = if random.below(3) == 0 { 2 } else { numbers.len() };
+        stream.number = numbers[random.below(choice)];
+    }
+    let mut state = stream.state();
+    if faults.contains(&17) {
+        let size = if random.below(2) == 0 { 399 + 2 * random.below(2) } else { OTHER_SIZES[random.below(13)] };
+        state.resize(size, [0, 255][random.below(2)]);
+    }
+    state
 }
 
 /// The bits held and those of a piece: too many held if faults has 7, too many together if it has 6, unused bits in the

@@ -1,6 +1,6 @@
-//! The two coax codes of W8 in plain Rust, by the definitions: what the archives must answer. One implementation, over
-//! the block size and the table. It shares no code with the proved crates, has its own copy of source document 001's
-//! tables, and finds the parity by Gaussian elimination. It is slow, and unproved.
+//! The two coax codes of W8, as amended by W9, in plain Rust, by the definitions: what the archives must answer. One
+//! implementation, over the block size and the table. It shares no code with the proved crates, has its own copy of
+//! source document 001's tables, and finds the parity by Gaussian elimination. It is slow, and unproved.
 //!
 //!   Coax            the sizes of a code in bits, the checks of each place, the inverse of the parity part
 //!   Coax::code_16200, code_5940     the two codes
@@ -20,6 +20,8 @@ use crate::stream::Stream;
 pub struct Coax {
     /// The bits of a word are also the code's name.
     pub places: usize,
+    /// The number that its streams have.
+    pub number: u64,
     pub payload: usize,
     pub parity: usize,
     pub block: usize,
@@ -30,18 +32,19 @@ pub struct Coax {
 
 impl Coax {
     pub fn code_16200() -> Coax {
-        Coax::new(360, &TABLE_16200)
+        Coax::new(2, 360, &TABLE_16200)
     }
 
     pub fn code_5940() -> Coax {
-        Coax::new(180, &TABLE_5940)
+        Coax::new(3, 180, &TABLE_5940)
     }
 
     /// The last block columns are parity, as many as there are block rows.
-    fn new(block: usize, table: &'static [&'static [i16]]) -> Coax {
+    fn new(number: u64, block: usize, table: &'static [&'static [i16]]) -> Coax {
         let (places, parity) = (block * table[0].len(), block * table.len());
         let (checks_of, parity_from) = (Vec::new(), Vec::new());
-        let mut code = Coax { places, payload: places - parity, parity, block, table, checks_of, parity_from };
+        let payload = places - parity;
+        let mut code = Coax { places, number, payload, parity, block, table, checks_of, parity_from };
         let checks_of = |place| (0..parity).filter(|&check| code.has_one(check, place)).collect();
         code.checks_of = (0..places).map(checks_of).collect();
         let mut own = vec![EMPTY; parity];
@@ -174,8 +177,8 @@ impl Coax {
     }
 
     pub fn piece(&self, stream: &mut Stream, count: usize, bytes: &[u8]) -> Answer {
-        if stream.held > self.payload {
-            return Answer::Refused(7);
+        if let Some(n) = stream.refusal_of_state(self.number, self.payload, self.parity) {
+            return Answer::Refused(n);
         }
         if bytes.len() != bytes_for(count) {
             return Answer::Refused(2);
@@ -195,11 +198,11 @@ impl Coax {
         Answer::Fine
     }
 
-    /// The finish's answer, and the parity where it is written. The bits past the checks play no part.
+    /// The finish's answer, and the parity where it is written.
     pub fn finish(&self, stream: &mut Stream, room: usize) -> (Answer, Vec<u8>) {
         let refused = |n| (Answer::Refused(n), Vec::new());
-        if stream.held > self.payload {
-            return refused(7);
+        if let Some(n) = stream.refusal_of_state(self.number, self.payload, self.parity) {
+            return refused(n);
         }
         if stream.held != self.payload {
             return refused(1);
@@ -208,7 +211,7 @@ impl Coax {
             return refused(5);
         }
         let checks: Vec<bool> = (0..self.parity).map(|check| bit(&stream.checks, check) == 1).collect();
-        *stream = Stream::fresh();
+        *stream = Stream::fresh(self.number);
         (Answer::Fine, self.parity_with(&checks))
     }
 }

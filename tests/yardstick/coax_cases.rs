@@ -1,5 +1,4 @@
-//! The cases of a coax code that the archive of `host` alone can answer: encode and check. Its other operations are
-//! compared by coax_streams.rs.
+//! The cases of a coax code for encode and check. Its other operations are compared by coax_streams.rs.
 
 use crate::archive::CoaxCalls;
 use crate::cases::*;

@@ -1,8 +1,9 @@
-//! Compares the operations of the fibre code that are not at the C boundary with the yardstick (lists.rs) over seeded
-//! cases: complete, a stream's piece and its finish, through the archive of `measured`, all with lists. The answer's
-//! number is compared, and every byte that was lent, with guard bytes on both sides; so are the running checks after
-//! every piece. Prints how often each answer was reached and ends with `N cases, M wrong`. The exit status is 1 if
-//! anything differs, or if some answer was never reached.
+//! Compares a fibre stream's piece and finish, and complete, with the yardstick (lists.rs) over seeded cases, all with
+//! lists. Complete is not at the C boundary, so it goes through the archive of `measured`. The answer's number is
+//! compared, and every byte that was lent, with guard bytes on both sides; so is all of a stream's state after every
+//! call. Prints how often each answer was reached and ends with `N cases, M wrong`. The exit status is 1 if anything
+//! differs, or if some answer was never reached.
+//! Streams of several codes, and long runs of calls on one state, are in mixed_streams.rs.
 //! An answer that names a kind of lists is counted where it tells them from no lists at all, as in main.rs.
 //! Another seed than the usual one can be given as the only argument.
 
@@ -26,28 +27,26 @@ use cases::*;
 use lists::Orders;
 use made_lists::*;
 use paper::*;
-use stream::{Columns, Stream};
+use stream::{on_state, Columns, Stream, FIBRE};
 
 /// The refusals of each operation, in its order.
 const COMPLETE: [u64; 5] = [16, 1, 10, 2, 8];
-const PIECE: [u64; 5] = [16, 7, 2, 3, 6];
-const FINISH: [u64; 6] = [16, 7, 1, 10, 4, 5];
+const PIECE: [u64; 7] = [17, 16, 12, 7, 2, 3, 6];
+const FINISH: [u64; 8] = [17, 16, 12, 7, 1, 10, 4, 5];
 const ORDERS: [(&str, &[u64]); 3] = [("complete", &COMPLETE), ("piece", &PIECE), ("finish", &FINISH)];
 
 /// How many cases or payloads of each kind are tried.
 const FINE_EACH: usize = 84;
-const STREAMS_EACH: usize = 14;
-const OUTSIDE_EACH: usize = 70;
+const STREAMS_EACH: usize = 18;
+const OUTSIDE_EACH: usize = 84;
 const REFUSED_EACH: usize = 16;
 
 const CHECK_BYTES: usize = 384;
 const TAIL_BYTES: usize = 322;
 const PARITY_FROM: usize = PAYLOAD_PLACES / 8;
-/// What a call of `measured` answers where the running checks have another size.
-const NO_CHECKS: u64 = 65536;
 
 /// What is reached beside the answers.
-const OTHERS: [&str; 18] = [
+const OTHERS: [&str; 26] = [
     "complete with ones from place K on",
     "complete refusal 8 below place K",
     "piece of 0 bits",
@@ -56,16 +55,24 @@ const OTHERS: [&str; 18] = [
     "piece refused in between",
     "piece, lists refused in between",
     "piece, another pair in between",
-    "piece, checks of another size",
+    "piece on a stream handed back",
+    "piece, a single running check",
+    "piece 12, every number",
+    "piece 7, every count",
+    "piece 17, every size",
     "finish with room to spare",
     "finish with room one short",
     "finish refused in between",
     "finish, lists refused in between",
     "finish as the encoder's tail",
     "finish as of another cutting",
+    "finish leaves it fresh",
     "finish again",
     "finish, any running checks",
-    "finish, checks of another size",
+    "finish, a single running check",
+    "finish 12, every number",
+    "finish 7, every count",
+    "finish 17, every size",
 ];
 
 /// Lists of this kind change nothing in an operation that only tests the other list.
@@ -119,22 +126,12 @@ fn names() -> Vec<String> {
     names
 }
 
-/// A stream, ours and the running checks that are lent.
-struct State {
-    ours: Stream,
-    lent: Lent,
-}
-
 /// What a stream is fed and finished with.
 #[derive(Clone, Copy)]
 struct Input<'a> {
     k: usize,
     u: &'a [u8],
     delimiter: usize,
-}
-
-fn copy_of(stream: &Stream) -> Stream {
-    Stream { held: stream.held, checks: stream.checks.clone() }
 }
 
 fn orders_of(pair: &Pair) -> Orders {
@@ -251,32 +248,35 @@ impl Comparison {
             }
             let u = payload(&mut self.cases.random, k);
             let input = Input { k, u: &u, delimiter: 0 };
-            self.stream(&pair, input, |_, left| left.min(k - 1), false);
+            let mut state = self.fresh();
+            self.stream(&mut state, &pair, input, |_, left| left.min(k - 1), false);
         }
     }
 
     // The stream
 
-    fn state(&mut self, ours: Stream) -> State {
-        let lent = Lent::new(&mut self.cases.random, &ours.checks);
-        State { ours, lent }
+    fn state(&mut self, ours: Vec<u8>) -> State {
+        State::new(&mut self.cases.random, ours)
+    }
+
+    fn fresh(&mut self) -> State {
+        self.state(Stream::fresh(FIBRE).state())
     }
 
     fn piece(&mut self, pair: &Pair, state: &mut State, count: usize, bytes: &[u8], meant: Answer) {
-        let held = state.ours.held;
-        let mut without = copy_of(&state.ours);
-        let ours = lists::piece(&self.columns, &pair.lists, &mut state.ours, count, bytes);
-        let same = ours == without.piece(&self.columns, count, bytes);
-        let as_without = same && state.ours.held == without.held && state.ours.checks == without.checks;
+        let held = state.held();
+        let columns = &self.columns;
+        let mut without = state.ours.clone();
+        let (same, ()) = on_state(&mut without, |stream| (stream.piece(columns, count, bytes), ()));
+        let with_lists = |stream: &mut Stream| (lists::piece(columns, &pair.lists, stream, count, bytes), ());
+        let (ours, ()) = on_state(&mut state.ours, with_lists);
+        let as_without = ours == same && state.ours == without;
         let mut lists = self.lend(pair);
         let mut lent = Lent::new(&mut self.cases.random, bytes);
         let lent_later = lent.all.clone();
-        let checks_later = state.lent.with(&state.ours.checks);
         let (first, second) = lists.parts();
-        let told = measured::piece(held, state.lent.part(), count, lent.part(), first, second);
-        let bytes_right = lent.all == lent_later && state.lent.all == checks_later && lists.same();
-        // a difference is told once, and not at every later piece
-        state.lent.all = checks_later;
+        let (told, state_right) = state.call(|state| archive::piece(state, count, lent.part(), first, second));
+        let bytes_right = lent.all == lent_later && state_right && lists.same();
         if ours == Answer::Fine {
             self.cases.reach(&piece_inside_byte(held));
             for (size, name) in [(0, "piece of 0 bits"), (1, "piece of 1 bit")] {
@@ -290,20 +290,20 @@ impl Comparison {
     }
 
     fn finish(&mut self, pair: &Pair, state: &mut State, delimiter: usize, room: usize, meant: Answer) -> Vec<u8> {
-        let held = state.ours.held;
-        let mut without = copy_of(&state.ours);
-        let (ours, written) = lists::finish(&self.code, &pair.lists, &mut state.ours, delimiter, room);
-        let same = (ours, written.clone()) == without.finish(&self.code, delimiter, room);
-        let as_without = same && state.ours.held == without.held && state.ours.checks == without.checks;
+        let held = state.held();
+        let code = &self.code;
+        let mut without = state.ours.clone();
+        let same = on_state(&mut without, |stream| stream.finish(code, delimiter, room));
+        let with_lists = |stream: &mut Stream| lists::finish(code, &pair.lists, stream, delimiter, room);
+        let (ours, written) = on_state(&mut state.ours, with_lists);
+        let as_without = (ours, written.clone()) == same && state.ours == without;
         let mut lists = self.lend(pair);
         let old = self.cases.random.bytes(room);
         let mut tail = Lent::new(&mut self.cases.random, &old);
         let tail_later = tail.with(&written);
-        let checks_later = state.lent.with(&state.ours.checks);
         let (first, second) = lists.parts();
-        let told = measured::finish(held, state.lent.part(), delimiter, first, second, tail.part());
-        let bytes_right = tail.all == tail_later && state.lent.all == checks_later && lists.same();
-        state.lent.all = checks_later;
+        let (told, state_right) = state.call(|state| archive::finish(state, delimiter, first, second, tail.part()));
+        let bytes_right = tail.all == tail_later && state_right && lists.same();
         if ours == Answer::Fine && room > written.len() {
             self.cases.reach("finish with room to spare");
         }
@@ -332,7 +332,7 @@ impl Comparison {
 
     /// A piece that is refused, for a stream that claims no more than a payload.
     fn refused_piece(&mut self, pair: &Pair, state: &mut State) {
-        let left = PAYLOAD_MOST - state.ours.held;
+        let left = PAYLOAD_MOST - state.held();
         let fault = [2, 3, 6][self.below(3)];
         let count = if fault == 6 { left + 1 + self.below(100) } else { 1 + 8 * self.below(40) };
         let bytes = faulty_run(&mut self.cases.random, &[fault], count);
@@ -348,7 +348,7 @@ impl Comparison {
 
     /// A finish that is refused, whatever is held.
     fn refused_finish(&mut self, pair: &Pair, state: &mut State) {
-        let refusal = refusal_of_count(state.ours.held).unwrap_or(4);
+        let refusal = refusal_of_count(state.held()).unwrap_or(4);
         self.cases.reach("finish refused in between");
         self.finish(pair, state, DELIMITER_MOST + 1, TAIL_BYTES, Answer::Refused(refusal));
 
@@ -359,49 +359,61 @@ impl Comparison {
 
     /// The running checks are those of the reordered bits so far, followed by zeros: told of the yardstick itself.
     fn running_checks(&mut self, orders: &Orders, u: &[u8], state: &State) {
-        let mut word = lists::inner_payload(orders, &lists::padded(state.ours.held, u));
+        let stream = Stream::read(&state.ours).expect("a state has 400 bytes");
+        let mut word = lists::inner_payload(orders, &lists::padded(stream.held, u));
         word.resize(WORD_BYTES, 0);
-        let found: Vec<bool> = (0..CHECKS).map(|check| bit(&state.ours.checks, check) == 1).collect();
+        let found: Vec<bool> = (0..CHECKS).map(|check| bit(&stream.checks, check) == 1).collect();
         if self.code.checks(&word) != found {
-            self.cases.complain(&format!("yardstick, running checks of {} bits", state.ours.held));
+            self.cases.complain(&format!("yardstick, running checks of {} bits", stream.held));
         }
     }
 
-    /// Feeds a payload from a fresh stream on, in pieces of the sizes that are given by turns, and finishes it.
-    fn stream(&mut self, pair: &Pair, input: Input, mut size: impl FnMut(&mut Self, usize) -> usize, disturbed: bool) {
+    /// Feeds a payload to a fresh stream, in pieces of the sizes that are given by turns, and finishes it.
+    fn stream(
+        &mut self,
+        state: &mut State,
+        pair: &Pair,
+        input: Input,
+        mut size: impl FnMut(&mut Self, usize) -> usize,
+        disturbed: bool,
+    ) {
         let Input { k, u, delimiter } = input;
         let orders = orders_of(pair);
-        let mut state = self.state(Stream::fresh());
         let mut pieces = 0;
-        while state.ours.held < k {
-            let held = state.ours.held;
+        while state.held() < k {
+            let held = state.held();
             let count = size(self, k - held);
             if count == k {
                 self.cases.reach("piece of the whole payload");
             }
-            self.piece(pair, &mut state, count, &part(u, held, count), Answer::Fine);
+            self.piece(pair, state, count, &part(u, held, count), Answer::Fine);
             pieces += 1;
             if pieces % 8 == 1 {
-                self.running_checks(&orders, u, &state);
+                self.running_checks(&orders, u, state);
             }
             if disturbed && self.below(4) == 0 {
-                self.refused_piece(pair, &mut state);
+                self.refused_piece(pair, state);
             }
             if disturbed && self.below(8) == 0 {
-                self.refused_finish(pair, &mut state);
+                self.refused_finish(pair, state);
             }
         }
-        self.running_checks(&orders, u, &state);
+        self.running_checks(&orders, u, state);
         if disturbed {
-            self.piece(pair, &mut state, 0, &[], Answer::Fine);
+            self.piece(pair, state, 0, &[], Answer::Fine);
             if k == PAYLOAD_MOST {
-                self.piece(pair, &mut state, 1, &[1], Answer::Refused(6));
+                self.piece(pair, state, 1, &[1], Answer::Refused(6));
             }
-            self.finish(pair, &mut state, delimiter, TAIL_BYTES - 1, Answer::Refused(5));
-            self.refused_finish(pair, &mut state);
+            self.finish(pair, state, delimiter, TAIL_BYTES - 1, Answer::Refused(5));
+            self.refused_finish(pair, state);
         }
         let spare = [0, self.below(80)][usize::from(disturbed)];
-        let tail = self.finish(pair, &mut state, delimiter, TAIL_BYTES + spare, Answer::Fine);
+        let tail = self.finish(pair, state, delimiter, TAIL_BYTES + spare, Answer::Fine);
+        if state.is_fresh(1) {
+            self.cases.reach("finish leaves it fresh");
+        } else {
+            self.cases.complain("yardstick, finish hands back another stream");
+        }
 
         // beside the word that the encoder writes
         let mut line = vec![0; bytes_for(line_bits(k))];
@@ -411,56 +423,60 @@ impl Comparison {
         self.cases.compare(&format!("encode K {}, lists {}", k, pair.kind), 0, told, same);
 
         self.cases.reach("finish again");
-        self.finish(pair, &mut state, delimiter, TAIL_BYTES, Answer::Refused(1));
+        self.finish(pair, state, delimiter, TAIL_BYTES, Answer::Refused(1));
     }
 
-    /// The same by the archive alone: the sum of its answers, the running checks before the finish, and the tail.
+    /// The same by the archive alone: the sum of its answers, the state before the finish, and the tail.
     fn alone(&mut self, pair: &Pair, input: Input, whole: bool) -> (u64, Vec<u8>, Vec<u8>) {
         let Input { k, u, delimiter } = input;
         let (first, second) = (&pair.lists.first, &pair.lists.second);
         let (mut answers, mut held) = (0, 0);
-        let mut checks = Stream::fresh().checks;
+        let mut state = Stream::fresh(FIBRE).state();
         while held < k {
             let count = if whole { k } else { self.size(k - held) };
-            answers += measured::piece(held, &mut checks, count, &part(u, held, count), first, second);
+            answers += archive::piece(&mut state, count, &part(u, held, count), first, second);
             held += count;
         }
-        let before = checks.clone();
+        let before = state.clone();
         let mut tail = vec![0; TAIL_BYTES];
-        answers += measured::finish(k, &mut checks, delimiter, first, second, &mut tail);
+        answers += archive::finish(&mut state, delimiter, first, second, &mut tail);
         (answers, before, tail)
     }
 
-    /// One payload and one pair, cut in several ways.
-    fn cuttings(&mut self, pair: &Pair, k: usize) {
+    /// One payload and one pair, cut in several ways. The stream is fresh, and takes the payload twice.
+    fn cuttings(&mut self, state: &mut State, pair: &Pair, k: usize) {
         let u = payload(&mut self.cases.random, k);
         let delimiter = faulty_delimiter(&mut self.cases.random, &[]);
         let input = Input { k, u: &u, delimiter };
-        self.stream(pair, input, |_, left| left, false);
-        self.stream(pair, input, |us, left| us.size(left), true);
-        let (_, checks, tail) = self.alone(pair, input, true);
+        self.stream(state, pair, input, |_, left| left, false);
+        self.cases.reach("piece on a stream handed back");
+        self.stream(state, pair, input, |us, left| us.size(left), true);
+        let (_, before, tail) = self.alone(pair, input, true);
         for _ in 0..3 {
-            let (answers, other_checks, other_tail) = self.alone(pair, input, false);
-            let same = checks == other_checks && tail == other_tail;
+            let (answers, other_before, other_tail) = self.alone(pair, input, false);
+            let same = before == other_before && tail == other_tail;
             self.cases.reach("finish as of another cutting");
             self.cases.compare(&format!("cutting K {}, lists {}", k, pair.kind), 0, answers, same);
         }
     }
 
+    /// One stream for all payloads: what a finish hands back takes the next.
     fn streams(&mut self) {
+        let mut state = self.fresh();
         for n in 0..STREAMS_EACH {
             for pair in [Pair::plain(), Pair::any_made(&mut self.cases.random, n)] {
                 // the sizes by turns, and not in step with the kinds of lists
                 let k = any_count(&mut self.cases.random, n + 8 * (n / 2));
-                self.cuttings(&pair, k);
+                self.cuttings(&mut state, &pair, k);
             }
         }
-        // by blocks of both kinds, and by single bits
+        // by blocks of both kinds, and by single bits, each from the fresh stream as the header has it
         let pair = Pair::made(&mut self.cases.random, "shuffled");
         for (k, size) in [(PAYLOAD_MOST, DATA_BLOCK), (PAYLOAD_MOST, 256), (8 * DATA_BLOCK, 1)] {
             let u = faulty_run(&mut self.cases.random, &[], k);
             let input = Input { k, u: &u, delimiter: DELIMITER_MOST };
-            self.stream(&pair, input, |_, left| left.min(size), false);
+            let mut state = self.fresh();
+            self.stream(&mut state, &pair, input, |_, left| left.min(size), false);
         }
     }
 
@@ -473,11 +489,11 @@ impl Comparison {
             }
             let k = any_count(&mut self.cases.random, n);
             let held = [0, k - 1, k, self.below(k)][n / 4 % 4];
-            let mut state = self.state(Stream { held, checks });
+            let mut state = self.state(Stream { number: FIBRE, held, checks }.state());
             let sizes = [self.size(k - held), k];
             for (m, size) in sizes.into_iter().enumerate() {
                 let pair = Pair::any_made(&mut self.cases.random, n + m);
-                let count = size.min(k - state.ours.held);
+                let count = size.min(k - state.held());
                 let bytes = faulty_run(&mut self.cases.random, &[], count);
                 self.cases.reach("piece, another pair in between");
                 self.piece(&pair, &mut state, count, &bytes, Answer::Fine);
@@ -486,6 +502,58 @@ impl Comparison {
             let delimiter = faulty_delimiter(&mut self.cases.random, &[]);
             self.cases.reach("finish, any running checks");
             self.finish(&pair, &mut state, delimiter, TAIL_BYTES + n % 3, Answer::Fine);
+        }
+    }
+
+    /// All running checks are in use: a 1 in one of them alone, also where those of the coax codes end.
+    fn single_checks(&mut self) {
+        let pair = Pair::any(&mut self.cases.random);
+        for place in [0, 899, 900, 1799, 1800, 3063, 3064, 3070, 3071] {
+            let mut stream = Stream::fresh(FIBRE);
+            flip(&mut stream.checks, place);
+            let mut state = self.state(stream.state());
+            let u = faulty_run(&mut self.cases.random, &[], DATA_BLOCK);
+            self.cases.reach("piece, a single running check");
+            self.piece(&pair, &mut state, DATA_BLOCK, &u, Answer::Fine);
+
+            stream.held = DATA_BLOCK;
+            let mut state = self.state(stream.state());
+            self.cases.reach("finish, a single running check");
+            self.finish(&pair, &mut state, 0, TAIL_BYTES, Answer::Fine);
+        }
+    }
+
+    /// A stream that is refused, by a piece and by a finish that have no fault of their own.
+    fn refused_stream(&mut self, pair: &Pair, stream: &Stream, refusal: u64) {
+        let state = stream.state();
+        let count = self.below(100);
+        let bytes = faulty_run(&mut self.cases.random, &[], count);
+        let mut lent = self.state(state.clone());
+        self.piece(pair, &mut lent, count, &bytes, Answer::Refused(refusal));
+        let mut lent = self.state(state);
+        self.finish(pair, &mut lent, 0, TAIL_BYTES, Answer::Refused(refusal));
+    }
+
+    /// Every number of other_numbers, of a fresh stream and of two that could be finished; every count of
+    /// counts_too_large.
+    fn states_refused(&mut self) {
+        let pair = Pair::any(&mut self.cases.random);
+        for number in other_numbers(FIBRE) {
+            for held in [0, DATA_BLOCK, PAYLOAD_MOST] {
+                let mut stream = Stream { number, held, ..Stream::fresh(FIBRE) };
+                if held > 0 {
+                    stream.checks = self.cases.random.bytes(CHECK_BYTES);
+                }
+                self.refused_stream(&pair, &stream, 12);
+            }
+            self.cases.reach("piece 12, every number");
+            self.cases.reach("finish 12, every number");
+        }
+        for held in counts_too_large(PAYLOAD_MOST) {
+            let checks = self.cases.random.bytes(CHECK_BYTES);
+            self.refused_stream(&pair, &Stream { number: FIBRE, held, checks }, 7);
+            self.cases.reach("piece 7, every count");
+            self.cases.reach("finish 7, every count");
         }
     }
 
@@ -523,11 +591,17 @@ impl Comparison {
         self.complete(lent, k, &word, Answer::Refused(faults[0]));
     }
 
+    /// So many bits held, and any running checks.
+    fn faulty_state(&mut self, faults: &[u64], held: usize) -> State {
+        let checks = self.cases.random.bytes(CHECK_BYTES);
+        let state = faulty_state(&mut self.cases.random, faults, Stream { number: FIBRE, held, checks });
+        self.state(state)
+    }
+
     fn refused_piece_with(&mut self, lent: &Pair, faults: &[u64]) {
         let (held, count) = faulty_counts(&mut self.cases.random, faults, PAYLOAD_MOST);
         let bytes = faulty_run(&mut self.cases.random, faults, count);
-        let checks = self.cases.random.bytes(CHECK_BYTES);
-        let mut state = self.state(Stream { held, checks });
+        let mut state = self.faulty_state(faults, held);
         self.piece(lent, &mut state, count, &bytes, Answer::Refused(faults[0]));
     }
 
@@ -557,8 +631,7 @@ impl Comparison {
         } else {
             TAIL_BYTES + [0, self.below(80)][n % 2]
         };
-        let checks = self.cases.random.bytes(CHECK_BYTES);
-        let mut state = self.state(Stream { held, checks });
+        let mut state = self.faulty_state(faults, held);
         self.finish(lent, &mut state, delimiter, room, Answer::Refused(faults[0]));
     }
 
@@ -578,39 +651,40 @@ impl Comparison {
             for list in LISTS {
                 for (n, fault) in FAULTS.iter().enumerate() {
                     for other in order {
-                        let both = [16, *other];
-                        let faults = if *other == 16 { &both[..1] } else { &both[..] };
-                        self.refused(call, |pair, random| pair.spoilt(random, list, fault), n, faults);
-                        self.cases.reach(&with_fault(call, list));
-                        self.cases.reach(&with_fault(call, fault));
+                        let faults: Vec<u64> = order.iter().copied().filter(|n| *n == 16 || n == other).collect();
+                        self.refused(call, |pair, random| pair.spoilt(random, list, fault), n, &faults);
+                        if faults[0] == 16 {
+                            self.cases.reach(&with_fault(call, list));
+                            self.cases.reach(&with_fault(call, fault));
+                        }
                     }
                 }
             }
         }
     }
 
-    /// Running checks of another size: nothing is written.
+    /// A state of another size: cut off or made longer, of a stream that is fine, and any bytes, beside lists at fault
+    /// and no room.
     fn other_sizes(&mut self) {
-        for size in [0, 1, 225, 383, 385, 448] {
+        let refused = Answer::Refused(17);
+        for size in OTHER_SIZES {
             let pair = Pair::any(&mut self.cases.random);
-            let mut lists = self.lend(&pair);
-            let old = self.cases.random.bytes(size);
-            let mut checks = Lent::new(&mut self.cases.random, &old);
-            let later = checks.all.clone();
-            let (first, second) = lists.parts();
-            let told = measured::piece(0, checks.part(), 8, &[255], first, second);
-            let bytes_right = checks.all == later && lists.same();
-            self.cases.reach("piece, checks of another size");
-            self.cases.compare("piece", NO_CHECKS, told, bytes_right);
+            let spoilt = Pair::any_spoilt(&mut self.cases.random);
+            let mut fine = Stream { held: PAYLOAD_MOST - DATA_BLOCK, ..Stream::fresh(FIBRE) }.state();
+            fine.resize(size, 0);
+            let any = self.cases.random.bytes(size);
 
-            let old = self.cases.random.bytes(TAIL_BYTES);
-            let mut tail = Lent::new(&mut self.cases.random, &old);
-            let tail_later = tail.all.clone();
-            let (first, second) = lists.parts();
-            let told = measured::finish(PAYLOAD_MOST, checks.part(), 0, first, second, tail.part());
-            let bytes_right = checks.all == later && tail.all == tail_later && lists.same();
-            self.cases.reach("finish, checks of another size");
-            self.cases.compare("finish", NO_CHECKS, told, bytes_right);
+            let mut state = self.state(fine.clone());
+            self.cases.reach("piece 17, every size");
+            self.piece(&pair, &mut state, 8, &[255], refused);
+            let mut state = self.state(any.clone());
+            self.piece(&spoilt, &mut state, 9, &[255], refused);
+
+            let mut state = self.state(fine);
+            self.cases.reach("finish 17, every size");
+            self.finish(&pair, &mut state, 0, TAIL_BYTES, refused);
+            let mut state = self.state(any);
+            self.finish(&spoilt, &mut state, DELIMITER_MOST + 1, 0, refused);
         }
     }
 }
@@ -623,6 +697,8 @@ fn main() {
     comparison.swapped_at_the_edge();
     comparison.streams();
     comparison.outside();
+    comparison.single_checks();
+    comparison.states_refused();
     comparison.all_refused();
     comparison.lists_at_fault();
     comparison.other_sizes();

@@ -1,6 +1,6 @@
 //! W2 in plain Rust, by the definitions: what the fibre calls must answer for any two lists. It picks single bits,
-//! place by place, and shares no code with the proved crates. What it says of an inner word's checks is paper.rs's. It
-//! is slow, and unproved.
+//! place by place, and shares no code with the proved crates. What it says of an inner word's checks is paper.rs's, and
+//! what it says of a stream without lists stream.rs's. It is slow, and unproved.
 //!
 //!   Lists           the two lists as they are lent: two bytes an entry, low byte first
 //!   reordering      the entries of a list, where it is a reordering of so many places

@@ -1,11 +1,12 @@
 //! Compares the archive with the yardstick over seeded cases: the answer's number, and every byte that was lent, with
 //! guard bytes on both sides. The cases of the fibre code (paper.rs, lists.rs) are here, those of the coax codes
-//! (coax.rs) in coax_cases.rs. Prints how often each answer was reached and ends with `N cases, M wrong`. The exit
-//! status is 1 if anything differs, or if some answer was never reached.
+//! (coax.rs) in coax_cases.rs; streams have programs of their own. Prints how often each answer was reached and ends
+//! with `N cases, M wrong`. The exit status is 1 if anything differs, or if some answer was never reached.
 //! An answer that names a kind of lists is counted where it tells them from no lists at all: with the plain pair the
 //! answer and the bytes must be those of paper 01, and with another pair they are counted where they are others.
 //! Another seed than the usual one can be given as the only argument.
 
+#[allow(dead_code)]
 mod archive;
 #[allow(dead_code)]
 mod cases;

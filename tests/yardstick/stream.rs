@@ -1,19 +1,29 @@
-//! Complete and the stream of paper 01, as amended by W4, in plain Rust, by the definitions: what the archive's three
-//! calls (paper.rs) leave out. It shares no code with the proved crates, and is unproved.
-//! There are no lists here, as in paper.rs; with any pair of them the same is in lists.rs.
+//! Complete and the stream of paper 01, as amended by W4 and W9, in plain Rust, by the definitions: what paper.rs
+//! leaves out. It shares no code with the proved crates, and is unproved.
+//! There are no lists here, as in paper.rs; with any pair of them the same is in lists.rs. What a stream is, and what
+//! 17, 12 and 7 refuse of it, is here for all three codes.
 //!
 //!   complete        the parity of a full word, written in place
 //!   fill_parity     the same of a word that is not refused
 //!   Columns         the checks that each place is in
-//!   Stream          the bits held, and the 384 bytes of running checks
+//!   FIBRE           the code number of paper 01's code; coax.rs has those of its own
+//!   Stream          its code number, the bits held, and the 384 bytes of running checks
+//!   Stream::read, state     the stream that a state of 400 bytes is, and the state of a stream
+//!   on_state        a call on a state as C lends it, of any size
+//!   Stream::refusal_of_state    by what any call refuses the stream itself
 //!   Stream::refusal_of_piece, refusal_of_finish     what a piece and the finish refuse, but for their lists
 //!   Stream::piece   adds a piece, bit by bit
-//!   Stream::finish  the tail, where it is written; the stream is fresh again
+//!   Stream::finish  the tail, where it is written; the stream is fresh again, of the same code
 //!   Stream::take_parity     the parity whose own checks are those held; the stream is fresh again
 
 use crate::paper::*;
 
-const CHECK_BYTES: usize = CHECKS / 8;
+pub const FIBRE: u64 = 1;
+/// A state: 8 bytes of code number and 8 of bits held, both low byte first, then the running checks.
+pub const STATE_BYTES: usize = 400;
+const HELD_FROM: usize = 8;
+const CHECKS_FROM: usize = 16;
+const CHECK_BYTES: usize = STATE_BYTES - CHECKS_FROM;
 const PARITY_FROM: usize = PAYLOAD_PLACES / 8;
 
 pub fn complete(code: &Code, k: usize, word: &mut [u8]) -> Answer {
@@ -50,19 +60,69 @@ impl Columns {
     }
 }
 
+#[derive(Clone)]
 pub struct Stream {
+    pub number: u64,
     pub held: usize,
     pub checks: Vec<u8>,
 }
 
+/// Low byte first.
+fn number_in(bytes: &[u8]) -> u64 {
+    bytes.iter().rev().fold(0, |sum, &byte| sum << 8 | u64::from(byte))
+}
+
+/// What a call on a state answers: 17 where that has not 400 bytes, else what is answered of the stream that it is. The
+/// stream is put back then.
+pub fn on_state<T: Default>(state: &mut [u8], call: impl FnOnce(&mut Stream) -> (Answer, T)) -> (Answer, T) {
+    match Stream::read(state) {
+        Some(mut stream) => {
+            let told = call(&mut stream);
+            state.copy_from_slice(&stream.state());
+            told
+        }
+        None => (Answer::Refused(17), T::default()),
+    }
+}
+
 impl Stream {
-    pub fn fresh() -> Stream {
-        Stream { held: 0, checks: vec![0; CHECK_BYTES] }
+    pub fn fresh(number: u64) -> Stream {
+        Stream { number, held: 0, checks: vec![0; CHECK_BYTES] }
+    }
+
+    /// None where refusal 17 is due.
+    pub fn read(state: &[u8]) -> Option<Stream> {
+        if state.len() != STATE_BYTES {
+            return None;
+        }
+        let number = number_in(&state[..HELD_FROM]);
+        let held = number_in(&state[HELD_FROM..CHECKS_FROM]) as usize;
+        Some(Stream { number, held, checks: state[CHECKS_FROM..].to_vec() })
+    }
+
+    pub fn state(&self) -> Vec<u8> {
+        let mut state = Vec::new();
+        for number in [self.number, self.held as u64] {
+            state.extend((0..8).map(|byte| (number >> (8 * byte)) as u8));
+        }
+        state.extend(&self.checks);
+        state
+    }
+
+    /// By a call of the code with this number, with so many payload bits at most and so many checks in use.
+    pub fn refusal_of_state(&self, number: u64, most: usize, in_use: usize) -> Option<u64> {
+        if self.number != number {
+            return Some(12);
+        }
+        if self.held > most || unused_set(&self.checks, in_use) {
+            return Some(7);
+        }
+        None
     }
 
     pub fn refusal_of_piece(&self, count: usize, bytes: &[u8]) -> Option<u64> {
-        if self.held > PAYLOAD_MOST {
-            return Some(7);
+        if let Some(n) = self.refusal_of_state(FIBRE, PAYLOAD_MOST, CHECKS) {
+            return Some(n);
         }
         if bytes.len() != bytes_for(count) {
             return Some(2);
@@ -90,8 +150,8 @@ impl Stream {
     }
 
     pub fn refusal_of_finish(&self, delimiter: usize, room: usize) -> Option<u64> {
-        if self.held > PAYLOAD_MOST {
-            return Some(7);
+        if let Some(n) = self.refusal_of_state(FIBRE, PAYLOAD_MOST, CHECKS) {
+            return Some(n);
         }
         if let Some(n) = refusal_of_count(self.held) {
             return Some(n);
@@ -116,7 +176,7 @@ impl Stream {
 
     pub fn take_parity(&mut self, code: &Code) -> Vec<u8> {
         let checks: Vec<bool> = (0..CHECKS).map(|check| bit(&self.checks, check) == 1).collect();
-        *self = Stream::fresh();
+        *self = Stream::fresh(FIBRE);
         code.parity_with(&checks)
     }
 }
