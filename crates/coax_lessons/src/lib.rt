@@ -1,5 +1,5 @@
-// The lessons of W8 and W9 of paper 02, run through the libraries for each coax code. What a lesson expects comes from the
-// tables of source document 001.
+// The lessons of W8 and W9 of paper 02, run through the libraries for each coax code. What a lesson expects comes from
+// the tables of source document 001 and from the orders of refusals.
 use codes::Code;
 use lessons::expected::is_check;
 use lessons::expected::is_done;

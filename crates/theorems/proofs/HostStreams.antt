@@ -74,8 +74,8 @@ module _ (f : Format) (s : List ℕ) where
         → Answered (λ a. StatePiece f n p s a s′) r → Answered (λ a. StatePiece f n p s a s″) r′
         → (r ≡ r′) × (s′ ≡ s″)
     host-piece-same r r′ s′ s″ h h′ x y =
-        let same = promise-same Bytes _ (λ v. v ≡ s) fed-single (λ v v′ e e′. e ∙ sym e′) _ (x .answer) (y .answer) s′ s″
-        h h′ (x .promised) (y .promised) in
+        let same = promise-same Bytes _ (λ v. v ≡ s) fed-single (λ v v′ e e′. e ∙ sym e′) _ (x .answer) (y .answer) s′
+        s″ h h′ (x .promised) (y .promised) in
         (x .result ∙ ap refusalOf (same .0) ∙ sym (y .result), same .1)
 
     pub host-piece-zero : (r : ℕ) (s′ : List ℕ) → Answered (λ a. StatePiece f n p s a s′) r

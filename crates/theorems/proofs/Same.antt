@@ -166,7 +166,8 @@ module _ (f : Format) where
         both =
             promise-same (λ (v : Stream × List ℕ). Bytes (v .1)) (λ v. (v .0 ≡ fresh (f .number)) × Tail (v .1))
             (λ v. (v .0 ≡ t) × (v .1 ≡ o))
-            (λ v v′ g g′ p q. left-of (p .0 ∙ sym (q .0)) (tail-written-same (t .checks) d o (v .1) (v′ .1) g g′ (p .1) (q .1)))
+            (λ v v′ g g′ p q.
+            left-of (p .0 ∙ sym (q .0)) (tail-written-same (t .checks) d o (v .1) (v′ .1) g g′ (p .1) (q .1)))
             (λ v v′ e e′. left-of (e .0 ∙ sym (e′ .0)) (e .1 ∙ sym (e′ .1)))
             q (r .answer) (r′ .answer) (r .stream, o′) (r′ .stream, o″) h k x y
 
