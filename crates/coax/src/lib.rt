@@ -143,7 +143,7 @@ pub fn piece(code: CoaxCode, stream: Stream, count: usize, bytes: &[u8]) -> Outc
     ensures { λ r. ⌜ PieceTaken (coaxFormat code) count (now (bytes .entry)) stream r ⌝ }
 {
     let held = stream.held;
-    let refusal = refusals::piece_alone(stream, coax::limits(code), count, bytes);
+    let refusal = stream_refusals::piece_alone(stream, coax::limits(code), count, bytes);
     if refusal != 0 {
         return Outcome {
             answer: Answer::Refused(refusal),
@@ -179,7 +179,7 @@ fn write_tail(code: CoaxCode, sums: &[u8], tail: &mut [u8])
 pub fn finish(code: CoaxCode, stream: Stream, tail: &mut [u8]) -> Outcome
     ensures { λ r. ⌜ CoaxFinished code stream (now (tail .entry)) r (now (tail .exit)) ⌝ }
 {
-    let refusal = refusals::coax::finish(code, stream, tail.len());
+    let refusal = stream_refusals::coax::finish(code, stream, tail.len());
     if refusal != 0 {
         return Outcome {
             answer: Answer::Refused(refusal),

@@ -1,10 +1,8 @@
--- The unused bits of the bytes s that hold b bits. Where these are as many as needed, all of them are in the last byte.
+-- The unused high bits of the bytes s that hold b bits: all of them are in the last byte.
 --
 --   unused-none     where s has no byte that b bits do not fill, none is unused
 --   unused-found    a 1 that is found in the last byte from bit b mod 8 on is an unused bit
 --   unused-clear    where none is found there, no unused bit is 1
---   past-found      a 1 that is found from place b on is an unused bit
---   past-clear      where none is found to the end of s, no unused bit is 1
 use mathlib.Core.Path.{_≡_, sym, _∙_}
 use mathlib.Core.List.{List}
 use Prim.Native.Nat.{ℕ, _+_, _-_, _*_, _/_, _%_, _≤_, _<_}
@@ -38,13 +36,3 @@ module _ (s : List ℕ) (b : ℕ) (l : length s ≡ need b) where
           omega (arith, rw e at (sym (last t (omega arith)) ∙ f .clear t (omega arith) (omega arith)), u .2)
       | no k ↦ omega (arith, bit-past s (u .0) (omega arith), u .2)
     ]
-
-module _ (s : List ℕ) (b m : ℕ) {p : ℕ} (f : FirstSet s b m p) where
-  pub past-found : p < m → UnusedSet s b
-  past-found h = (p, f .low, f .set h)
-
-  pub past-clear : 8 * length s ≤ m → m ≤ p → UnusedSet s b → ⊥
-  past-clear all h u = elim (decLt (u .0) m) [
-    | yes k ↦ omega (arith, f .clear (u .0) (u .1) (omega arith), u .2)
-    | no k ↦ omega (arith, bit-past s (u .0) (omega arith), u .2)
-  ]

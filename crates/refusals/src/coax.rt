@@ -1,9 +1,7 @@
-// The refusals of the coax codes, W8 and W9 of paper 02: each operation's order of tests. A piece has the fibre code's
-// order, but for the lists.
-ghost use Rattle.rules.specs.Coax.{coaxFormat, coaxEncodeOrder, coaxWordOrder, coaxFinishOrder};
+// The refusals of the coax codes, W8 of paper 02: each operation's order of tests.
+ghost use Rattle.rules.specs.Coax.{coaxFormat, coaxEncodeOrder, coaxWordOrder};
 ghost use Rattle.rules.specs.Refusals.{tells};
 use rules::CoaxCode;
-use rules::Stream;
 use rules::coax;
 
 // Encode: 1, 2, 5.
@@ -31,22 +29,6 @@ pub fn word(code: CoaxCode, count: usize, word: &[u8]) -> usize
             super::outside(count, payload, payload),
             super::differs(word.len(), bits::needed(all), 2),
             super::unused_set(word, all),
-        ],
-    )
-}
-
-// Finish: 12, 7, 1, 5.
-pub fn finish(code: CoaxCode, stream: Stream, room: usize) -> usize
-    ensures { λ r. ⌜ tells (coaxFinishOrder (coaxFormat code) stream room) r ⌝ }
-{
-    let exact = coax::payload_places(code);
-    let held = stream.held;
-    super::first_told(
-        &[
-            super::differs(stream.number, coax::number(code), 12),
-            super::bad_state(stream, coax::limits(code)),
-            super::outside(held, exact, exact),
-            super::above(bits::needed(coax::checks(code)), room, 5),
         ],
     )
 }

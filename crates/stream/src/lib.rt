@@ -58,7 +58,7 @@ pub fn piece(stream: Stream, count: usize, bytes: &[u8], first: &[u8], second: &
         ⌝ }
 {
     let held = stream.held;
-    let refusal = refusals::piece(stream, count, bytes, first, second);
+    let refusal = stream_refusals::piece(stream, count, bytes, first, second);
     if refusal != 0 {
         return Outcome {
             answer: Answer::Refused(refusal),
@@ -106,7 +106,7 @@ pub fn finish(
         (now (tail .exit))
         ⌝ }
 {
-    let refusal = refusals::finish(stream, delimiter, first, second, tail.len());
+    let refusal = stream_refusals::finish(stream, delimiter, first, second, tail.len());
     if refusal != 0 {
         return Outcome {
             answer: Answer::Refused(refusal),

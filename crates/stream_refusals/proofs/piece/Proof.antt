@@ -1,11 +1,11 @@
--- `refusals::piece` meets its contract: refusal 16, and then what a piece asks alone.
+-- `stream_refusals::piece` meets its contract: refusal 16, and then what a piece asks alone.
 use borrow.Author.Needs.{needs}
 use native.Mathlib.Omega.{arith}
 use Rattle.rules.specs.Formats.{fibreFormat}
 use Rattle.rules.specs.Refusals.{ofLists, ofPiece}
 use Rattle.laws.proofs.Told.{told-more, told-next}
-use Rattle.refusals.proofs.piece.Statement.{statement}
-use Rattle.refusals.proofs.piece.Tie as tie
+use Rattle.stream_refusals.proofs.piece.Statement.{statement}
+use Rattle.stream_refusals.proofs.piece.Tie as tie
 
 returns : tie.Need-returns
 returns c =

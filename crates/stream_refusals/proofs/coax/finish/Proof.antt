@@ -1,4 +1,4 @@
--- `refusals::coax::finish` meets its contract: its tests stand in the order of the definition.
+-- `stream_refusals::coax::finish` meets its contract: its tests stand in the order of the definition.
 use borrow.Author.Needs.{needs}
 use mathlib.Core.Path.{_≡_}
 use native.Mathlib.Omega.{arith}
@@ -7,8 +7,8 @@ use Rattle.rules.specs.Coax.{coaxCode, coaxFormat, coaxFinishOrder}
 use Rattle.rules.specs.Words.{tailBits}
 use Rattle.rules.proofs.CoaxLaws.{coax-numbers}
 use Rattle.laws.proofs.Told.{none, test, told-tested}
-use Rattle.refusals.proofs.coax.finish.Statement.{statement}
-use Rattle.refusals.proofs.coax.finish.Tie as tie
+use Rattle.stream_refusals.proofs.coax.finish.Statement.{statement}
+use Rattle.stream_refusals.proofs.coax.finish.Tie as tie
 
 bad-state-requires : tie.Need-bad-state-requires
 bad-state-requires c κs =

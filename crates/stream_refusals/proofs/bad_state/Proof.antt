@@ -1,13 +1,13 @@
--- `refusals::bad_state` meets its contract.
+-- `stream_refusals::bad_state` meets its contract.
 use borrow.Author.Needs.{needs}
 use mathlib.Core.Path.{_≡_, refl}
 use mathlib.Core.Logic.{inl, inr, ⊎-elim}
 use native.Mathlib.Omega.{arith}
 use lib.ListN.{length}
 use Rattle.rules.specs.Streams.{streamBytes}
-use Rattle.refusals.proofs.Unused.{past-found, past-clear}
-use Rattle.refusals.proofs.bad_state.Statement.{statement}
-use Rattle.refusals.proofs.bad_state.Tie as tie
+use Rattle.stream_refusals.proofs.Past.{past-found, past-clear}
+use Rattle.stream_refusals.proofs.bad_state.Statement.{statement}
+use Rattle.stream_refusals.proofs.bad_state.Tie as tie
 
 slice-aggregate-first-set : tie.Need-slice-aggregate-first-set
 slice-aggregate-first-set c = search needs

@@ -1,9 +1,9 @@
--- `refusals::above_with` meets its contract.
+-- `stream_refusals::above_with` meets its contract.
 use mathlib.Core.Path.{refl}
 use mathlib.Core.Logic.{inl, inr}
 use native.Mathlib.Omega.{arith}
-use Rattle.refusals.proofs.above_with.Statement.{statement}
-use Rattle.refusals.proofs.above_with.Tie as tie
+use Rattle.stream_refusals.proofs.above_with.Statement.{statement}
+use Rattle.stream_refusals.proofs.above_with.Tie as tie
 
 pub above-with-spec : {M : Type 1} → statement M
 above-with-spec =

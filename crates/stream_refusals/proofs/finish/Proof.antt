@@ -1,11 +1,11 @@
--- `refusals::finish` meets its contract: its tests stand in the order of the definition.
+-- `stream_refusals::finish` meets its contract: its tests stand in the order of the definition.
 use borrow.Author.Needs.{needs}
 use native.Mathlib.Omega.{arith}
 use Rattle.rules.specs.Formats.{fibreFormat}
 use Rattle.rules.specs.Refusals.{finishOrder}
 use Rattle.laws.proofs.Told.{none, test, told-tested}
-use Rattle.refusals.proofs.finish.Statement.{statement}
-use Rattle.refusals.proofs.finish.Tie as tie
+use Rattle.stream_refusals.proofs.finish.Statement.{statement}
+use Rattle.stream_refusals.proofs.finish.Tie as tie
 
 returns : tie.Need-returns
 returns c =

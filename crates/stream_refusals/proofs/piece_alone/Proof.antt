@@ -1,9 +1,9 @@
--- `refusals::piece_alone` meets its contract: its tests stand in the order of the definition.
+-- `stream_refusals::piece_alone` meets its contract: its tests stand in the order of the definition.
 use borrow.Author.Needs.{needs}
 use Rattle.rules.specs.Refusals.{ofPiece}
 use Rattle.laws.proofs.Told.{none, test, told-tested, not-different}
-use Rattle.refusals.proofs.piece_alone.Statement.{statement}
-use Rattle.refusals.proofs.piece_alone.Tie as tie
+use Rattle.stream_refusals.proofs.piece_alone.Statement.{statement}
+use Rattle.stream_refusals.proofs.piece_alone.Tie as tie
 
 returns : tie.Need-returns
 returns c f e =
