@@ -1,5 +1,7 @@
 // What the program answers: each answer is a line of text, made in a buffer, and an exit status. The promises give
 // both.
+#![tactic(auto)]
+
 ghost use Rattle.std.specs.Prelude.{◌≡◌, ◌≤◌, length, take};
 ghost use Rattle.io.specs.Counts.{IsPrefixLen};
 ghost use Rattle.rules.specs.declared.Judgement.TheVariants.{Judged};
@@ -11,7 +13,7 @@ use rules::{Cause, Judgement, Verdict};
 // What a check answers; a file was written; an operation was refused; both lists of a pair reorder their places; what
 // a stream holds after a piece, or why the piece was refused; how many were refused; what became of a vector; a line of
 // vectors that is not as expected; totals.
-#[derive(Drop)]
+#[derive(Clone, Copy)]
 pub enum Said {
     Judged(Judgement),
     Written(usize),

@@ -1,4 +1,6 @@
 // The program: each command hands files of bytes to the proved libraries and says what they answer.
+#![tactic(auto)]
+
 use codes::Named;
 use commands::pairs;
 use console::say;

@@ -2,6 +2,8 @@
 // Bit n is in byte n / 8, with weight 2 to the power n mod 8. A slice may have more bits than a usize can count.
 // Bits move by numbers of 64, and those that are left at the end by one number more.
 // Its functions serve the crates above, which show what they require; no user calls them.
+#![tactic(auto)]
+
 ghost use Rattle.std.specs.Prelude.{◌≡◌, ◌++◌, ℕ, ◌+◌, ◌*◌, ◌/◌, ◌%◌, ◌^◌, ◌≤◌, ◌<◌, length, drop, replicate};
 ghost use Rattle.rules.specs.Bits.{bit, need, placed, Adds};
 ghost use Rattle.rules.specs.Matrix.{total};

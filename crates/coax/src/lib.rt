@@ -1,5 +1,7 @@
 // The two coax codes of W8 of paper 02: encode a payload, complete a word in place, check a word; take a piece of a
 // stream, and finish it. Each operation is told which of the codes it serves.
+#![tactic(auto)]
+
 ghost use Rattle.std.specs.Prelude.{◌≡◌, ℕ, ◌+◌, ◌*◌, ◌≤◌, length};
 ghost use Rattle.rules.specs.Bits.{bit, need, zeros, run, placed, Packed, Adds};
 ghost use Rattle.rules.specs.Matrix.{places, checks, places_of_payload, check};

@@ -1,5 +1,7 @@
 // The lessons of W8 and W9 of paper 02, run through the libraries for each coax code. What a lesson expects comes from
 // the tables of source document 001 and from the orders of refusals.
+#![tactic(auto)]
+
 use codes::Code;
 use lessons::expected::{is_check, is_done, is_judged_refused, is_refused, lesson, set};
 use lessons::places;

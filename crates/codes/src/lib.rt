@@ -1,6 +1,8 @@
 // The codes that the program serves: the fibre code and the two coax codes. How CODE names one, what BITS may be, and
 // each operation by its code, so that a command is written once for all of them. An operation is lent both lists of the
 // fibre code as one slice; a coax code does not read it.
+#![tactic(auto)]
+
 pub mod pair;
 
 ghost use Rattle.std.specs.Prelude.{◌≡◌};
@@ -13,7 +15,7 @@ use console::numbers;
 use console::numbers::Number;
 use rules::{Answer, CoaxCode, Judgement, Outcome, Stream};
 
-#[derive(Drop)]
+#[derive(Clone, Copy)]
 pub enum Code {
     Fibre,
     Coax(CoaxCode),
@@ -23,7 +25,7 @@ pub enum Code {
 pub const NO_DELIMITER: usize = 0;
 
 // What CODE names: a coax code, by the bits of its words, or nothing.
-#[derive(Drop)]
+#[derive(Clone, Copy)]
 pub enum Named {
     Is(CoaxCode),
     Nothing,

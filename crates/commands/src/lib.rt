@@ -2,6 +2,8 @@
 // tells the exit status. What is wrong with an output is said before anything is computed.
 // A file is read into a buffer that is longer than any operation's bytes, so that the operation refuses what is too
 // long. LISTS is read after the output is found, and before any other file.
+#![tactic(auto)]
+
 pub mod pairs;
 
 ghost use Rattle.std.specs.Prelude.{◌+◌, ◌^◌, ◌≤◌, ◌<◌, length};

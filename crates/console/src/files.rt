@@ -8,7 +8,7 @@ use crate::say;
 use kinds::Known;
 
 // How many bytes were read, and whether nothing failed.
-#[derive(Drop)]
+#[derive(Clone, Copy)]
 pub struct Got {
     pub fine: bool,
     pub size: usize,

@@ -1,4 +1,6 @@
 // What the commands share: answers and faults said in plain lines, decimal numbers, and files of bytes to read.
+#![tactic(auto)]
+
 pub mod files;
 pub mod numbers;
 pub mod say;

@@ -8,7 +8,7 @@ ghost use Rattle.console.specs.Lines.{bytes_of_line};
 use crate::say;
 
 // What a text spells: a number; nothing of the kind; or one above the largest usize.
-#[derive(Drop)]
+#[derive(Clone, Copy)]
 pub enum Number {
     Is(usize),
     Nothing,

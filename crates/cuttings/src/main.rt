@@ -4,6 +4,8 @@
 // write what encode writes after the payload. All this by the pair of lists that changes nothing, and some of it by one
 // that is made up: both lists reversed. Then come the lessons of paper 01's sheet on a full stream and on a fresh one.
 // Each line says first whether its fact is right; the last two say how many are right and how many are wrong.
+#![tactic(auto)]
+
 ghost use Rattle.std.specs.Prelude.{◌≡◌, ◌+◌, ◌*◌, ◌≤◌, ◌<◌, length};
 ghost use Rattle.rules.specs.Bits.{need};
 ghost use Rattle.rules.specs.Promises.{refusal_of};
@@ -24,7 +26,7 @@ const BLANK: u8 = 165;
 const FACTS: u64 = 23;
 
 // A stream on its way, and whether every answer and every state up to here was right.
-#[derive(Drop)]
+#[derive(Clone, Copy)]
 struct Way {
     stream: Stream,
     right: bool,

@@ -1,4 +1,6 @@
 // What the program says of itself, in lines of at most 40 characters: its commands, its answers and its refusals.
+#![tactic(auto)]
+
 use console::numbers::Number;
 use console::say::TROUBLE;
 use console::{numbers, say};

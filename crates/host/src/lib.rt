@@ -1,5 +1,7 @@
 // The C boundary: the bench host calls the encoder and both checks with numbers and byte slices only. The header
 // include/birdovesta.h says what the host answers for. The coax codes' calls have a module, and those of streams.
+#![tactic(auto)]
+
 pub mod coax_calls;
 pub mod stream_calls;
 

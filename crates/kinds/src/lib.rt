@@ -1,11 +1,13 @@
 // What is known of the file at a path: whether it could be asked, which file it is, its kind and mode, and whose it is.
 // It is handed over by value, so that no caller has a reference to a struct, which only a proof by hand covers.
+#![tactic(auto)]
+
 ghost use Rattle.libc.specs.Io.{Ended};
 
 use libc::types::{stat, timespec};
 
 // fine: the system answered. Else the numbers are 0, and errno says why.
-#[derive(Drop)]
+#[derive(Clone, Copy)]
 pub struct Known {
     pub fine: bool,
     pub device: u64,
@@ -16,7 +18,7 @@ pub struct Known {
 }
 
 // What the call answered, and what it left in the struct that it was lent.
-#[derive(Drop)]
+#[derive(Clone, Copy)]
 struct Asked {
     status: i32,
     answer: stat,

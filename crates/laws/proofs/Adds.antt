@@ -18,7 +18,7 @@ use lib.Bits.{bit_xor}
 use lib.ListN.{length, get_or, set, take, drop, length-set, length-take, length-drop}
 use Rattle.rules.specs.Bits.{bit, Bytes, placed, Adds}
 use Rattle.rules.specs.Words.{digit}
-use Rattle.laws.proofs.Bits.{bit<, bit_xor, bit_set, bit_set_other, bit_part, mid, length_mid, bit_mid}
+use Rattle.laws.proofs.Bits.{bit<, bit_xor_law, bit_set, bit_set_other, bit_part, mid, length_mid, bit_mid}
 use Rattle.laws.proofs.Bits.{bit_below, bit_above, bits_same}
 use Rattle.laws.proofs.Numbers.{digit_low}
 use Rattle.laws.proofs.Runs.{placed_in, placed_each, placed_join}
@@ -54,7 +54,7 @@ module _ (s : List ℕ) (i x : ℕ) (h : i < length s) where
   same_byte n e =
       let t : n - 8 * i ≡ n % 8 = omega arith in
       bit_set s i _ n h e
-      ∙ bit_xor (get_or s i 0) _ (n % 8)
+      ∙ bit_xor_law (get_or s i 0) _ (n % 8)
       ∙ rw (digit_low x 8 (n % 8) (omega arith), placed_in (8 * i) 8 (digit x) n (omega arith) (omega arith), t, e)
 
   other_byte : (n : ℕ) → (n / 8 ≡ i → ⊥) → placed (8 * i) 8 (digit x) n ≡ 0

@@ -4,7 +4,8 @@
 --   bit<                      a bit is below 2
 --   bit_past                  past the end of a list every bit is 0
 --   bit_digit                 bit t of byte i
---   bit_xor, bit_or, bit_and  a bit of an exclusive or is the sum mod 2, of an or the larger one, of an and the smaller
+--   bit_xor_law              a bit of an exclusive or is the sum mod 2
+--   bit_or_law, bit_and_law  a bit of an or is the larger one, of an and the smaller
 --   bit_set, bit_set_other    a bit of a byte that was stored, and of another
 --   bits_more                 bits that are those of f below byte i are so below the next, once byte i has its eight
 --   bit_take, bit_drop        a bit of the first k bytes, and of all from byte a on
@@ -65,17 +66,17 @@ xor_two : (p q : ℕ) → p < 2 → q < 2 → bit_xor p q ≡ (p + q) % 2
 unfolding sums
 xor_two p q h k = eqb→eq _ _ (every_at 2 (sums p) (every_at 2 (λ p. every 2 (sums p)) tt p h) q k)
 
-pub bit_xor : (x y t : ℕ) → bit_xor x y / 2 ^ t % 2 ≡ (x / 2 ^ t % 2 + y / 2 ^ t % 2) % 2
-bit_xor x y t =
+pub bit_xor_law : (x y t : ℕ) → bit_xor x y / 2 ^ t % 2 ≡ (x / 2 ^ t % 2 + y / 2 ^ t % 2) % 2
+bit_xor_law x y t =
     ap (λ (n : ℕ). n % 2) (xor_shr x y t)
     ∙ xor_mod (x / 2 ^ t) (y / 2 ^ t) 1
     ∙ xor_two (x / 2 ^ t % 2) (y / 2 ^ t % 2) (mod-lt _ (lit< tt)) (mod-lt _ (lit< tt))
 
-pub bit_or : (x y t : ℕ) → bit_or x y / 2 ^ t % 2 ≡ max (x / 2 ^ t % 2) (y / 2 ^ t % 2)
-bit_or x y t = ap (λ (n : ℕ). n % 2) (or_shr x y t) ∙ omega (arith, or_step (x / 2 ^ t) (y / 2 ^ t))
+pub bit_or_law : (x y t : ℕ) → bit_or x y / 2 ^ t % 2 ≡ max (x / 2 ^ t % 2) (y / 2 ^ t % 2)
+bit_or_law x y t = ap (λ (n : ℕ). n % 2) (or_shr x y t) ∙ omega (arith, or_step (x / 2 ^ t) (y / 2 ^ t))
 
-pub bit_and : (x y t : ℕ) → bit_and x y / 2 ^ t % 2 ≡ min (x / 2 ^ t % 2) (y / 2 ^ t % 2)
-bit_and x y t = ap (λ (n : ℕ). n % 2) (and_shr x y t) ∙ omega (arith, and_step (x / 2 ^ t) (y / 2 ^ t))
+pub bit_and_law : (x y t : ℕ) → bit_and x y / 2 ^ t % 2 ≡ min (x / 2 ^ t % 2) (y / 2 ^ t % 2)
+bit_and_law x y t = ap (λ (n : ℕ). n % 2) (and_shr x y t) ∙ omega (arith, and_step (x / 2 ^ t) (y / 2 ^ t))
 
 pub bit_set : (s : List ℕ) (i v n : ℕ) → i < length s → n / 8 ≡ i → bit (set s i v) n ≡ v / 2 ^ (n % 8) % 2
 bit_set s i v n h e = rw (e, get_or-set_same)

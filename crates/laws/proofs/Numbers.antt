@@ -28,7 +28,7 @@ use Rattle.rules.specs.Bits.{zeros, run, placed}
 use Rattle.rules.specs.Matrix.{total}
 use Rattle.rules.specs.Words.{digit}
 use Rattle.rules.proofs.Sums.{total_same, total_from}
-use Rattle.laws.proofs.Bits.{bit_or}
+use Rattle.laws.proofs.Bits.{bit_or_law}
 use Rattle.laws.proofs.Runs.{run_low, run_high, run_each, run_below, run_run, run_join, placed_below, placed_in}
 
 pub digit< : (x k : ℕ) → digit x k < 2
@@ -91,7 +91,7 @@ module _ (x y b m : ℕ) (f : ℕ → ℕ) (bits : (k : ℕ) → f k < 2) where
   pub digit_joined : (k : ℕ) → digit x k ≡ run b f zeros k → digit y k ≡ placed b m (λ t. f (b + t)) k
       → digit (bit_or x y) k ≡ run (b + m) f zeros k
   digit_joined k p q =
-      bit_or x y k
+      bit_or_law x y k
       ∙ rw (p, q, run_join b m f k)
       (omega (arith, run_join b m f k, run_below (b + m) f zeros (λ n h. bits n) (λ n. lit< tt) k))
 

@@ -6,7 +6,7 @@ use answers::Said;
 use console::say;
 
 // status: the worst exit status of the lines said so far.
-#[derive(Drop)]
+#[derive(Clone, Copy)]
 pub struct Tally {
     pub right: usize,
     pub wrong: usize,

@@ -1,4 +1,6 @@
 // Line words of the fibre code: encode a payload, and check a line word.
+#![tactic(auto)]
+
 ghost use Rattle.std.specs.Prelude.{◌+◌, ◌*◌, ◌≤◌, ◌≡◌, length};
 ghost use Rattle.rules.specs.Bits.{bit, need};
 ghost use Rattle.rules.specs.Lists.{Listed};

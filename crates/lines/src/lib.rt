@@ -1,5 +1,7 @@
 // A line of text, put together in a buffer: words, numbers in decimal digits, and the end of the line. No line here is
 // longer than 61 bytes: 20 of words, 40 of digits, and the end.
+#![tactic(auto)]
+
 ghost use Rattle.std.specs.Prelude.{◌≡◌, ◌++◌, ◌+◌, ◌≤◌, ◌<◌, length, take};
 ghost use Rattle.io.specs.Counts.{IsPrefixLen};
 ghost use Rattle.lines.specs.Texts.{decimal, new_line, fact, facts, tally, numbered, shown};

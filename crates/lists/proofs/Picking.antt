@@ -14,7 +14,7 @@ use lib.ListN.{length, get_or, replicate, length-replicate}
 use Rattle.rules.specs.Bits.{bit, placed, Adds}
 use Rattle.rules.specs.Lists.{entry_of}
 use Rattle.rules.specs.Words.{digit}
-use Rattle.laws.proofs.Bits.{bit<, bit_and, bit_digit, bit_ones}
+use Rattle.laws.proofs.Bits.{bit<, bit_and_law, bit_digit, bit_ones}
 use Rattle.laws.proofs.Runs.{placed_in, placed_above}
 use Rattle.bits.specs.Searches.{FirstSet}
 use Rattle.lists.specs.Picked.{Names, Picked, Kept, FirstShortened}
@@ -31,7 +31,7 @@ names_within l k n m m' b d h =
 pub kept_byte : (s w : List ℕ) (i x : ℕ) → x ≡ get_or s i 0 → (t : ℕ) → t < 8
     → digit (bit_and x (get_or w i 0)) t ≡ min (bit s (8 * i + t)) (bit w (8 * i + t))
 kept_byte s w i x e t h =
-    rw (bit_digit s i t h, bit_digit w i t h, e) (bit_and (get_or s i 0) (get_or w i 0) t)
+    rw (bit_digit s i t h, bit_digit w i t h, e) (bit_and_law (get_or s i 0) (get_or w i 0) t)
 
 -- bytes of ones: o are those with the first K bits cleared, p is picked from o by a, and q is what is kept of p in w
 module _ (b K : ℕ) {a w o p q : List ℕ} (names : Names a (8 * b) (8 * b))

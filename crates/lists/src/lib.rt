@@ -1,5 +1,7 @@
 // Lists that reorder places: read, made, tested, and used to pick bits. An entry is two bytes, the low byte first.
 // Its functions serve the crates above, which show what they require; no user calls them.
+#![tactic(auto)]
+
 ghost use Rattle.std.specs.Prelude.{◌≡◌, ℕ, min, ◌+◌, ◌*◌, ◌%◌, ◌≤◌, ◌<◌, length, get_or};
 ghost use Rattle.rules.specs.Bits.{bit};
 ghost use Rattle.rules.specs.Lists.{entry_of, Plain};

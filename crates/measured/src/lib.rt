@@ -1,6 +1,8 @@
 // What the tests call beyond the C boundary: complete, with numbers and byte slices only. These are no public
 // operations: the benchmark and the outside tests alone call them, and the archive of `host` does not have them. Each
 // function only calls the operation, and answers 0 or the refusal's number. The coax codes' calls have a module.
+#![tactic(auto)]
+
 pub mod coax_calls;
 
 ghost use Rattle.rules.specs.Formats.{fibre_format};

@@ -19,7 +19,7 @@ use lib.Bits.{bit_or, bit_xor}
 use lib.ListN.{length, get_or}
 use Rattle.rules.specs.Bits.{bit, zeros, run, placed, sum}
 use Rattle.rules.specs.Words.{digit}
-use Rattle.laws.proofs.Bits.{bit_past, bit_digit, bit_xor}
+use Rattle.laws.proofs.Bits.{bit_past, bit_digit, bit_xor_law}
 use Rattle.laws.proofs.Numbers.{digit_high, digit_right, digit_left, digit_joined, digit_across}
 use Rattle.laws.proofs.Runs.{run_none, run_each, run_same}
 use Rattle.numbers.specs.Numbers.{Holds}
@@ -58,7 +58,7 @@ number_first f p = record {
 }
 
 pub number_sum : {x y : ℕ} {f g : ℕ → ℕ} → Holds x f → Holds y g → Holds (bit_xor x y) (sum f g)
-number_sum {x} {y} p q = record { each = λ k h. bit_xor x y k ∙ rw (p.each k h, q.each k h) }
+number_sum {x} {y} p q = record { each = λ k h. bit_xor_law x y k ∙ rw (p.each k h, q.each k h) }
 
 pub number_across : (low high t : ℕ) → low < 2 ^ 64 → t < 64
     → Holds (bit_or (low / 2 ^ t) ((high * 2 ^ 1) % 2 ^ 64 * 2 ^ (63 - t) % 2 ^ 64))

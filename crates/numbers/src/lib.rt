@@ -1,6 +1,8 @@
 // Numbers of 64 bits in bytes, at any place: read, stored and added. The first bit of a number is its lowest.
 // A place is its byte and its weight there, as a slice may have more bits than a usize can count.
 // Its functions serve the crates above, which show what they require; no user calls them.
+#![tactic(auto)]
+
 ghost use Rattle.std.specs.Prelude.{◌≡◌, ◌+◌, ◌*◌, ◌/◌, ◌%◌, ◌^◌, ◌≤◌, ◌<◌, length};
 ghost use Rattle.rules.specs.Bits.{bit, run, placed, Adds};
 ghost use Rattle.rules.specs.Matrix.{total};

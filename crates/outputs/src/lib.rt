@@ -1,5 +1,7 @@
 // Files of bytes to write. A link is followed to where it leads. A file is written whole or not at all: to a new one
 // beside it, NAME.new, which then takes its name, and the mode and the owner of the one that had it.
+#![tactic(auto)]
+
 ghost use Rattle.std.specs.Prelude.{◌≤◌, length};
 ghost use Rattle.io.specs.Counts.{IsPrefixLen};
 
@@ -9,7 +11,7 @@ use kinds::Known;
 
 // How long the path is, and what is known of the file that has it, if there is one. Where the file can't be written,
 // that was said, and the path has no bytes.
-#[derive(Drop)]
+#[derive(Clone, Copy)]
 pub struct Output {
     pub size: usize,
     pub known: Known,

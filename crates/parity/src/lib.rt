@@ -1,6 +1,8 @@
 // Parity of the fibre code: finds the one whose own checks are given, by a recipe.
 // Its function serves the crates above, which show what it requires; no user calls it.
 // The coax codes have a module, with recipes of their own.
+#![tactic(auto)]
+
 pub mod coax;
 
 ghost use Rattle.std.specs.Prelude.{◌≡◌, length};

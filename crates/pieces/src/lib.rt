@@ -1,6 +1,8 @@
 // The commands over a payload in pieces: a stream is fed them one by one, and finished. Each answer names its piece; a
 // refused one is left out, and the last line counts those. The fibre code and the coax codes go the same way, but for
 // LISTS, which is read once, before any piece.
+#![tactic(auto)]
+
 ghost use Rattle.std.specs.Prelude.{◌+◌, ◌*◌, ◌^◌, ◌≤◌, ◌<◌, length};
 
 use answers::Said;
@@ -13,7 +15,7 @@ use lessons::tally;
 use rules::{Answer, CoaxCode, Stream};
 
 // A stream, how many of its pieces were refused, the worst exit status so far, and whether all pieces could be read.
-#[derive(Drop)]
+#[derive(Clone, Copy)]
 struct Feeding {
     stream: Stream,
     refused: usize,

@@ -1,5 +1,7 @@
 // Compares the second print of the table, Table 142-2, with Table 142-1, place by place, and says how many of the 828
 // places differ. Table 142-1 decides; this program carries its own transcription of the second.
+#![tactic(auto)]
+
 ghost use Rattle.std.specs.Prelude.{◌≤◌, ◌<◌};
 
 use libc::STDOUT_FILENO;

@@ -3,6 +3,8 @@
 // its limits. None needs an earlier one: where that tells a refusal, a later test may answer anything, and no more.
 // Only refusal 8 is tested after the others: its places are seen through the first list, which has to be one.
 // The orders here are the fibre code's; those of the coax codes have a module, and those of streams a crate.
+#![tactic(auto)]
+
 pub mod coax;
 
 ghost use Rattle.std.specs.Prelude.{◌≡◌, ◌⊎◌, [], ◌∷◌, ◌≤◌, ◌<◌, length};

@@ -1,4 +1,6 @@
 // The scan of a fibre word's check rows: the lowest that fails.
+#![tactic(auto)]
+
 ghost use Rattle.std.specs.Prelude.{◌≡◌, ◌/◌, ◌<◌, length};
 ghost use Rattle.rules.specs.Bits.{bit, need};
 ghost use Rattle.rules.specs.Matrix.{places, checks, entry};

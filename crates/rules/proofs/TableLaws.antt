@@ -75,7 +75,7 @@ get_d_any (x ∷ xs) (suc i) a b h = get_d_any xs i a b (le_of_suc-le-suc h)
 -- an element of a line as it is read, in 16 bits
 pub line_read : (l : List ℤ) (i : ℕ) → i < length l → mag (get_or l i (pos 0)) < 32768
     → to_z w16 (of_z w16 (get_or l i (pos 0))) ≡ get_or l i (negsuc 0)
-line_read l i h small = to_z-of_z record { sfits = small } ∙ get_d_any l i (pos 0) (negsuc 0) h
+line_read l i h small = to_z-of_z {w = w16} record { sfits = small } ∙ get_d_any l i (pos 0) (negsuc 0) h
 
 small : (z : ℕ) (a : ℤ) → z < 32768 → T (proper z a) → mag a < 32768
 small z (pos a) h t = lt_trans (ltb→lt a z t) h

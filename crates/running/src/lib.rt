@@ -1,6 +1,8 @@
 // The running checks: the one way in which bits reach them, for any code. A block that holds such bits is added,
 // turned, once for each entry of its line of the table. A module for each code holds its table.
 // Its functions serve the crates above, which show what they require; no user calls them.
+#![tactic(auto)]
+
 pub mod coax;
 pub mod fibre;
 

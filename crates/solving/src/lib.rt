@@ -1,5 +1,7 @@
 // Solving: follows a recipe over registers of any size. The registers stand one after another.
 // Its function serves the crates above, which show what it requires; no user calls it.
+#![tactic(auto)]
+
 ghost use Rattle.std.specs.Prelude.{ℕ, ◌+◌, ◌*◌, ◌%◌, ◌^◌, ◌≤◌, ◌<◌, length, get_or};
 ghost use Rattle.rules.specs.Bits.{bit, placed, Adds};
 ghost use Rattle.recipes.specs.Steps.{StepFits, Followed};

@@ -1,4 +1,6 @@
 // A stream as the 400 bytes that a C host keeps, W9 of paper 02: its code's number, the bits held, the running checks.
+#![tactic(auto)]
+
 ghost use Rattle.std.specs.Prelude.{◌≡◌, length};
 ghost use Rattle.states.specs.States.{state_bytes, stream_in};
 

@@ -1,5 +1,7 @@
 // The stream of the fibre code: a payload that arrives in pieces, cut anywhere. Its running checks are complete after
 // every piece.
+#![tactic(auto)]
+
 ghost use Rattle.std.specs.Prelude.{◌≡◌, ◌+◌, ◌≤◌, length};
 ghost use Rattle.rules.specs.Bits.{bit, need, placed, Packed, Adds};
 ghost use Rattle.rules.specs.Lists.{Listed};

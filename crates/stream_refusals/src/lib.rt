@@ -1,5 +1,7 @@
 // Paper 01, 'Refusal numbers', and W2, W4 and W9 of paper 02, of streams: the tests of a stream's state, and the orders
 // of a piece and of a finish. Those of the coax codes have a module.
+#![tactic(auto)]
+
 pub mod coax;
 
 ghost use Rattle.std.specs.Prelude.{◌≡◌, ◌⊎◌, [], ◌∷◌, ◌+◌, ◌*◌, ◌≤◌, ◌<◌};

@@ -2,6 +2,8 @@
 // A block of any size is two runs. A part, of 256 bits from a byte on, is added faster, by quarters: a quarter is 64 of
 // its bits, as one number, the first bit lowest.
 // Its functions serve the crates above, which show what they require; no user calls them.
+#![tactic(auto)]
+
 ghost use Rattle.std.specs.Prelude.{◌≡◌, ℕ, ◌+◌, ◌*◌, ◌%◌, ◌^◌, ◌≤◌, ◌<◌, length, drop};
 ghost use Rattle.rules.specs.Bits.{bit, zeros, run, placed, Adds};
 ghost use Rattle.numbers.specs.Numbers.{Holds, Replaced};
@@ -17,7 +19,7 @@ pub const PART_BYTES: usize = 32;
 const HELD_BYTES: usize = 64;
 
 // A part by its four quarters.
-#[derive(Drop)]
+#[derive(Clone, Copy)]
 struct Part {
     first: u64,
     second: u64,

@@ -1,5 +1,7 @@
 // Files of vectors (docs/VECTORS.md): each payload is encoded, and the line word compared with the one given. A line
 // may name the lists that those after it are encoded by.
+#![tactic(auto)]
+
 mod digits;
 mod words;
 
@@ -38,7 +40,7 @@ const LISTS: u8 = 8;
 
 // What was read of a vector, and of the file so far. The payload and the line are counts of hexadecimal digits, the
 // lists one of bytes.
-#[derive(Drop)]
+#[derive(Clone, Copy)]
 struct Reading {
     bits: usize,
     delimiter: usize,

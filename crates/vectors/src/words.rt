@@ -2,7 +2,7 @@
 ghost use Rattle.std.specs.Prelude.{◌≤◌, length};
 
 // What is looked for: the end of a line, a blank, or anything else.
-#[derive(Drop)]
+#[derive(Clone, Copy)]
 pub enum Sought {
     LineEnd,
     Blank,

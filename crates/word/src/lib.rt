@@ -1,4 +1,6 @@
 // Full words of the fibre code, in inner order: check one, from any decoder, and complete one's parity in place.
+#![tactic(auto)]
+
 ghost use Rattle.std.specs.Prelude.{◌≡◌, ◌≤◌, length};
 ghost use Rattle.rules.specs.Bits.{bit, need};
 ghost use Rattle.rules.specs.Lists.{Listed};

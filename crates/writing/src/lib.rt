@@ -1,6 +1,8 @@
 // Writes a line word: the payload's bits, then its tail, the sent parity and the delimiter, one run after another with
 // no padding. A stream's finish writes the tail alone.
 // Its functions serve the crates above, which show what they require; no user calls them.
+#![tactic(auto)]
+
 ghost use Rattle.std.specs.Prelude.{◌≡◌, ℕ, ◌+◌, ◌*◌, ◌≤◌, ◌<◌, length};
 ghost use Rattle.rules.specs.Bits.{bit, need, placed, Written, Adds};
 ghost use Rattle.rules.specs.Lists.{Listed};
