@@ -7,7 +7,7 @@ use native.Mathlib.Numerals.{add-one}
 use native.Mathlib.Omega.{arith}
 use lib.ListN.{length}
 use Rattle.console.specs.Spelled.{value_of}
-use Rattle.console.proofs.Spelling.{Begun, begun_more, begun-whole}
+use Rattle.console.proofs.Spelling.{Begun, begun_more, begun_whole}
 use Rattle.console.proofs.numbers.read.Statement.{statement}
 use Rattle.console.proofs.numbers.read.Tie as tie
 
@@ -49,7 +49,7 @@ returns-2 c =
     let s = c.before.before.before.before.args.text.now in
     let l = c.before.loop in
     let e : l.i ≡ length s = omega arith in
-    begun-whole s l.number (omega arith) (rw e at l.invariant.2)
+    begun_whole s l.number (omega arith) (rw e at l.invariant.2)
 
 pub read_spec : {M : Type 1} → statement M
 read_spec =

@@ -1,6 +1,6 @@
 -- `console::numbers::with_byte` meets its contract.
 use borrow.Author.Rules.{rules}
-use Rattle.console.proofs.Spelling.{large-more}
+use Rattle.console.proofs.Spelling.{large_more}
 use Rattle.console.proofs.numbers.with_byte.Statement.{statement}
 use Rattle.console.proofs.numbers.with_byte.Tie as tie
 
@@ -29,7 +29,7 @@ returns-3 : tie.Need-returns-3
 returns-3 c =
     let byte = c.before.before.before.args.byte in
     let told = c.with-digit2 in
-    rw c.before.enum-told2.given.1 (large-more byte told.result told.ensures)
+    rw c.before.enum-told2.given.1 (large_more byte told.result told.ensures)
 
 pub with-byte-spec : {M : Type 1} → statement M
 with-byte-spec =

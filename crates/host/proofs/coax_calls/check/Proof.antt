@@ -1,13 +1,13 @@
 -- `host::coax_calls::check` meets its contract.
 use borrow.Author.Rules.{rules}
-use Rattle.host.proofs.Fits.{coax-check-fits}
+use Rattle.host.proofs.Fits.{coax_check_fits}
 use Rattle.host.proofs.coax_calls.check.Statement.{statement}
 use Rattle.host.proofs.coax_calls.check.Tie as tie
 
 judgement-number-requires : tie.Need-judgement-number-requires
 judgement-number-requires c κs =
     let a = c.before.before.args in
-    coax-check-fits a.code a.bits a.word.now c.check.result c.check.ensures
+    coax_check_fits a.code a.bits a.word.now c.check.result c.check.ensures
 
 returns : tie.Need-returns
 returns c =

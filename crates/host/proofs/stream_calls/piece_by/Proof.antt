@@ -1,15 +1,15 @@
 -- `host::stream_calls::piece_by` meets its contract.
 use borrow.Author.Rules.{rules}
 use mathlib.Core.Path.{refl, subst}
-use Rattle.rules.specs.Coax.{coaxFormat}
+use Rattle.rules.specs.Coax.{coax_format}
 use Rattle.rules.specs.Promises.{PieceTaken}
 use Rattle.rules.specs.declared.Stream.{Stream}
-use Rattle.host.proofs.States.{state-refused, state-piece}
+use Rattle.host.proofs.States.{state_refused, state_piece}
 use Rattle.host.proofs.stream_calls.piece_by.Statement.{statement}
 use Rattle.host.proofs.stream_calls.piece_by.Tie as tie
 
 returns : tie.Need-returns
-returns c = state-refused c.before.before.before.args.state.now c.if1.true refl
+returns c = state_refused c.before.before.before.args.state.now c.if1.true refl
 
 returns-2 : tie.Need-returns-2
 returns-2 c =
@@ -17,8 +17,8 @@ returns-2 c =
     let made = c.before.before.before.before.before.read in
     let test = c.before.before.before.before.before.before.before in
     let a = test.before.before.before.args in
-    let f = coaxFormat a.code in
-    state-piece test.if1.false did.result c.before.before.hand-back.ensures f a.bits a.piece.now
+    let f = coax_format a.code in
+    state_piece test.if1.false did.result c.before.before.hand-back.ensures f a.bits a.piece.now
     (subst (λ (t : Stream). PieceTaken f a.bits a.piece.now t did.result) made.ensures did.ensures)
 
 pub piece-by-spec : {M : Type 1} → statement M

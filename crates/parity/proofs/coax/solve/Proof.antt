@@ -9,16 +9,16 @@ use native.Mathlib.Omega.{arith}
 use lib.ListN.{length, drop, replicate, length-append, length-drop, length-replicate}
 use Rattle.rules.specs.Bits.{bit, need, placed, Adds}
 use Rattle.rules.specs.Matrix.{checks}
-use Rattle.rules.specs.Coax.{coaxSize, coaxCode}
+use Rattle.rules.specs.Coax.{coax_size, coax_code}
 use Rattle.rules.specs.Words.{OwnChecks}
 use Rattle.rules.specs.declared.CoaxCode.{CoaxCode}
-use Rattle.rules.proofs.CoaxLaws.{coax-numbers}
-use Rattle.laws.proofs.Bits.{bit<, bit-zeros, bit_past, bit-cleared}
-use Rattle.laws.proofs.Parities.{moved-bit, moved-past, moved-packed}
+use Rattle.rules.proofs.CoaxLaws.{coax_numbers}
+use Rattle.laws.proofs.Bits.{bit<, bit_zeros, bit_past, bit_cleared}
+use Rattle.laws.proofs.Parities.{moved_bit, moved_past, moved_packed}
 use Rattle.recipes.specs.Steps.{Followed}
-use Rattle.recipes.proofs.Steps.{codes-fit, followed-own}
-use Rattle.parity.specs.CoaxRecipes.{coaxSteps}
-use Rattle.parity.proofs.CoaxSolved.{coax-solves, coax-coded}
+use Rattle.recipes.proofs.Steps.{codes_fit, followed_own}
+use Rattle.parity.specs.CoaxRecipes.{coax_steps}
+use Rattle.parity.proofs.CoaxSolved.{coax_solves, coax_coded}
 use Rattle.parity.proofs.coax.solve.Statement.{statement}
 use Rattle.parity.proofs.coax.solve.Tie as tie
 
@@ -29,29 +29,29 @@ module _ (s : List ℕ) {z : List ℕ} (cleared : z ≡ replicate (length s) 0 +
 
   cleared-bit : (n : ℕ) → bit z n ≡ 0
   cleared-bit n = elim (dec_lt n (8 * length s)) [
-    | yes h ↦ rw cleared (bit-cleared s (length s) n h)
+    | yes h ↦ rw cleared (bit_cleared s (length s) n h)
     | no h ↦ bit_past z n (omega (arith, cleared-length))
   ]
 
 -- the registers are x before the recipe, and y after it
 solved : (k : CoaxCode) (m : ℕ) (s x y z p : List ℕ)
-    → Adds (replicate m 0) x (placed 0 (checks (coaxCode k)) (λ t. bit s (0 + t)))
-    → Followed (coaxSize k) (coaxSteps k) x y → ((n : ℕ) → bit z n ≡ 0) → length z ≡ need (checks (coaxCode k))
-    → Adds z p (placed 0 (checks (coaxCode k)) (λ t. bit y (checks (coaxCode k) + t)))
-    → OwnChecks (coaxCode k) s p
+    → Adds (replicate m 0) x (placed 0 (checks (coax_code k)) (λ t. bit s (0 + t)))
+    → Followed (coax_size k) (coax_steps k) x y → ((n : ℕ) → bit z n ≡ 0) → length z ≡ need (checks (coax_code k))
+    → Adds z p (placed 0 (checks (coax_code k)) (λ t. bit y (checks (coax_code k) + t)))
+    → OwnChecks (coax_code k) s p
 solved k m s x y z p put done clear long read =
-    let b = checks (coaxCode k) in
+    let b = checks (coax_code k) in
     let bits : (n : ℕ) → bit s (0 + n) < 2 = λ n. bit< s (0 + n) in
-    followed-own (coax-solves k) (coax-coded k) refl x y s p
-    (λ t h. moved-bit b bits (bit-zeros m) put t h ∙ ap (bit s) (zero-add t))
-    (λ t h. moved-past b bits (bit-zeros m) put t h)
-    done (moved-packed b (λ n. bit< y (b + n)) clear read long)
-    (moved-bit b (λ n. bit< y (b + n)) clear read)
+    followed_own (coax_solves k) (coax_coded k) refl x y s p
+    (λ t h. moved_bit b bits (bit_zeros m) put t h ∙ ap (bit s) (zero-add t))
+    (λ t h. moved_past b bits (bit_zeros m) put t h)
+    done (moved_packed b (λ n. bit< y (b + n)) clear read long)
+    (moved_bit b (λ n. bit< y (b + n)) clear read)
 
 add-run-requires : tie.Need-add-run-requires
 add-run-requires c κs =
     let all = c.before.before.checks.ensures in
-    let n = coax-numbers c.before.before.before.before.before.before.args.code in
+    let n = coax_numbers c.before.before.before.before.before.before.args.code in
     (omega (arith, n.size), omega arith)
 
 follow-requires : tie.Need-follow-requires
@@ -59,12 +59,12 @@ follow-requires c κs =
     let told = c.before.before.before.before.before in
     let size = told.before.before.size.ensures in
     let k = told.before.before.before.before.before.args.code in
-    let n = coax-numbers k in
+    let n = coax_numbers k in
     rw (size, told.recipe-of.ensures) (
       n.some,
       omega (arith, n.size),
       omega arith,
-      codes-fit (coax-solves k) (coax-coded k) refl _ (omega (arith, n.size)),
+      codes_fit (coax_solves k) (coax_coded k) refl _ (omega (arith, n.size)),
     )
 
 add-run-requires-2 : tie.Need-add-run-requires-2
@@ -73,11 +73,11 @@ add-run-requires-2 c κs =
     let followed = cleared.before.before.before in
     let told = followed.before.before.before.before.before.before in
     let start = told.before.before.before.before.before in
-    let n = coax-numbers start.args.code in
+    let n = coax_numbers start.args.code in
     let long = cleared-length start.args.parity.now cleared.clear.ensures in
     let all = told.before.checks.ensures in
-    let made = followed.follow.ensures.length-same in
-    let begun = followed.before.before.before.before.add-run.ensures.length-same in
+    let made = followed.follow.ensures.length_same in
+    let begun = followed.before.before.before.before.add-run.ensures.length_same in
     (omega arith, omega (arith, n.size))
 
 returns : tie.Need-returns

@@ -5,14 +5,14 @@ use Prim.Native.Nat.{◌+◌, ◌-◌, ◌≤◌}
 use native.Mathlib.Omega.{arith}
 use Rattle.rules.specs.Bits.{Adds}
 use Rattle.rules.specs.Matrix.{check}
-use Rattle.running.specs.Running.{blocksOf, lined}
-use Rattle.running.proofs.Blocks.{has-fewer, line-added, blocks-none, blocks-join}
+use Rattle.running.specs.Running.{blocks_of, lined}
+use Rattle.running.proofs.Blocks.{has_fewer, line_added, blocks_none, blocks_join}
 use Rattle.running.proofs.coax.add_lines.Statement.{statement}
 use Rattle.running.proofs.coax.add_lines.Tie as tie
 
 abbrev invariant-loop : tie.invariant-loop
 invariant-loop sums₀ word size from to table j₀ sums j =
-    (from ≤ j) × (j ≤ to) × Adds sums₀ sums (λ n. check (lined size table) n (blocksOf size word from j))
+    (from ≤ j) × (j ≤ to) × Adds sums₀ sums (λ n. check (lined size table) n (blocks_of size word from j))
 
 abbrev decreases-loop : tie.decreases-loop
 decreases-loop sums₀ word size from to table j₀ sums j = to - j
@@ -21,7 +21,7 @@ loop-holds : tie.Need-loop-init invariant-loop decreases-loop
 loop-holds c =
     let s = c.before.before in
     let a = s.args in
-    (search rules, search rules, blocks-none (lined a.size a.table.now) s.requires.2 a.word.now _ a.from)
+    (search rules, search rules, blocks_none (lined a.size a.table.now) s.requires.2 a.word.now _ a.from)
 
 add-line-requires : tie.Need-add-line-requires invariant-loop decreases-loop
 add-line-requires c κs =
@@ -29,8 +29,8 @@ add-line-requires c κs =
     let pre = l.before.before.before.requires in
     let j = l.loop.j in
     let five = pre.5.five j (omega arith) in
-    let same = l.loop.invariant.2.length-same in
-    (rw five (has-fewer (omega arith) same pre.0), has-fewer (omega arith) refl pre.1, pre.2, pre.5.proper j)
+    let same = l.loop.invariant.2.length_same in
+    (rw five (has_fewer (omega arith) same pre.0), has_fewer (omega arith) refl pre.1, pre.2, pre.5.proper j)
 
 loop-again : tie.Need-loop-preserved invariant-loop decreases-loop
 loop-again c =
@@ -39,8 +39,8 @@ loop-again c =
     let a = s.args in
     let code = lined a.size a.table.now in
     let j = l.loop.j in
-    let added = line-added code s.requires.2 a.word.now j (omega arith) c.before.before.add-line.ensures in
-    let joined = blocks-join code s.requires.2 a.word.now a.from j (j + 1) (omega arith) (omega arith)
+    let added = line_added code s.requires.2 a.word.now j (omega arith) c.before.before.add-line.ensures in
+    let joined = blocks_join code s.requires.2 a.word.now a.from j (j + 1) (omega arith) (omega arith)
     l.loop.invariant.2 added in
     (search rules, search rules, joined)
 

@@ -7,15 +7,15 @@ use lib.Dec.{lit<}
 use Rattle.rules.specs.Bits.{Adds}
 use Rattle.rules.specs.Matrix.{check}
 use Rattle.rules.specs.Table.{fibre}
-use Rattle.rules.proofs.TableLaws.{fibre-fits, line-length, line-proper}
-use Rattle.running.specs.Running.{blocksOf}
-use Rattle.running.proofs.Blocks.{line-added, blocks-none, blocks-join}
+use Rattle.rules.proofs.TableLaws.{fibre_fits, line_length, line_proper}
+use Rattle.running.specs.Running.{blocks_of}
+use Rattle.running.proofs.Blocks.{line_added, blocks_none, blocks_join}
 use Rattle.running.proofs.fibre.add_blocks.Statement.{statement}
 use Rattle.running.proofs.fibre.add_blocks.Tie as tie
 
 abbrev invariant-loop : tie.invariant-loop
 invariant-loop sums₀ word from to table j₀ sums j =
-    (from ≤ j) × (j ≤ to) × Adds sums₀ sums (λ n. check fibre n (blocksOf fibre.size word from j))
+    (from ≤ j) × (j ≤ to) × Adds sums₀ sums (λ n. check fibre n (blocks_of fibre.size word from j))
 
 abbrev decreases-loop : tie.decreases-loop
 decreases-loop sums₀ word from to table j₀ sums j = to - j
@@ -23,19 +23,19 @@ decreases-loop sums₀ word from to table j₀ sums j = to - j
 loop-holds : tie.Need-loop-init invariant-loop decreases-loop
 loop-holds c =
     let a = c.before.before.before.before.args in
-    (search rules, search rules, blocks-none fibre (lit< tt) a.word.now _ a.from)
+    (search rules, search rules, blocks_none fibre (lit< tt) a.word.now _ a.from)
 
 add-line-requires : tie.Need-add-line-requires invariant-loop decreases-loop
 add-line-requires c κs =
     let l = c.before.before.before.before in
     let table = l.before.copy-table.ensures in
     let j = l.loop.j in
-    let long = line-length fibre fibre-fits j (omega arith) in
-    let same = l.loop.invariant.2.length-same in (
+    let long = line_length fibre fibre_fits j (omega arith) in
+    let same = l.loop.invariant.2.length_same in (
       rw table record { bits = omega arith; counted = omega arith },
       record { bits = omega arith; counted = omega arith },
       search rules,
-      rw table (line-proper fibre fibre-fits j),
+      rw table (line_proper fibre fibre_fits j),
     )
 
 loop-again : tie.Need-loop-preserved invariant-loop decreases-loop
@@ -45,8 +45,8 @@ loop-again c =
     let from = l.before.before.before.before.before.args.from in
     let j = l.loop.j in
     let line = rw l.before.copy-table.ensures at c.before.before.add-line.ensures in
-    let added = line-added fibre (lit< tt) w j (omega arith) line in
-    let joined = blocks-join fibre (lit< tt) w from j (j + 1) (omega arith) (omega arith) l.loop.invariant.2 added in
+    let added = line_added fibre (lit< tt) w j (omega arith) line in
+    let joined = blocks_join fibre (lit< tt) w from j (j + 1) (omega arith) (omega arith) l.loop.invariant.2 added in
     (search rules, search rules, joined)
 
 returns : tie.Need-returns invariant-loop decreases-loop

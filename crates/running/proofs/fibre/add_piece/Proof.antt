@@ -6,20 +6,20 @@ use native.Mathlib.Nat.{zero-add}
 use native.Mathlib.Omega.{arith}
 use lib.Dec.{lit≤}
 use Rattle.rules.specs.Bits.{bit, need, placed}
-use Rattle.rules.specs.Matrix.{payloadPlaces}
+use Rattle.rules.specs.Matrix.{places_of_payload}
 use Rattle.rules.specs.Table.{fibre}
-use Rattle.laws.proofs.Runs.{placed-above}
-use Rattle.laws.proofs.Running.{checks-as}
-use Rattle.lists.proofs.Shortened.{listed-names}
-use Rattle.running.proofs.Blocks.{piece-bit}
-use Rattle.running.proofs.Inner.{inner-blocks}
+use Rattle.laws.proofs.Runs.{placed_above}
+use Rattle.laws.proofs.Running.{checks_as}
+use Rattle.lists.proofs.Shortened.{listed_names}
+use Rattle.running.proofs.Blocks.{piece_bit}
+use Rattle.running.proofs.Inner.{inner_blocks}
 use Rattle.running.proofs.fibre.add_piece.Statement.{statement}
 use Rattle.running.proofs.fibre.add_piece.Tie as tie
 
 pick-requires : tie.Need-pick-requires
 pick-requires c κs =
     let start = c.before.before.before.before.before.before.before.before in
-    listed-names start.requires.3 _ _ (lit≤ tt) (search rules)
+    listed_names start.requires.3 _ _ (lit≤ tt) (search rules)
 
 returns : tie.Need-returns
 returns c =
@@ -28,10 +28,10 @@ returns c =
     let a = put.before.before.before.before.before.args in
     let run = simp zero-add at put.add-run.ensures in
     let x = placed a.held a.count (bit a.piece.now) in
-    checks-as fibre
-    (λ n l. inner-blocks x refl picked.pick.ensures
-    (piece-bit fibre.size _ a.piece.now a.held a.count (need (payloadPlaces fibre)) run)
-    (λ n h. placed-above a.held a.count (bit a.piece.now) n (omega arith)) n)
+    checks_as fibre
+    (λ n l. inner_blocks x refl picked.pick.ensures
+    (piece_bit fibre.size _ a.piece.now a.held a.count (need (places_of_payload fibre)) run)
+    (λ n h. placed_above a.held a.count (bit a.piece.now) n (omega arith)) n)
     c.before.before.add-blocks.ensures
 
 pub add-piece-spec : {M : Type 1} → statement M

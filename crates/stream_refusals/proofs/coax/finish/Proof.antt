@@ -3,17 +3,17 @@ use borrow.Author.Rules.{rules}
 use mathlib.Core.Path.{◌≡◌}
 use native.Mathlib.Omega.{arith}
 use Rattle.rules.specs.Matrix.{checks}
-use Rattle.rules.specs.Coax.{coaxCode, coaxFormat, coaxFinishOrder}
-use Rattle.rules.specs.Words.{tailBits}
-use Rattle.rules.proofs.CoaxLaws.{coax-numbers}
-use Rattle.laws.proofs.Told.{none, test, told-tested}
+use Rattle.rules.specs.Coax.{coax_code, coax_format, coax_finish_order}
+use Rattle.rules.specs.Words.{tail_bits}
+use Rattle.rules.proofs.CoaxLaws.{coax_numbers}
+use Rattle.laws.proofs.Told.{none, test, told_tested}
 use Rattle.stream_refusals.proofs.coax.finish.Statement.{statement}
 use Rattle.stream_refusals.proofs.coax.finish.Tie as tie
 
 bad-state-requires : tie.Need-bad-state-requires
 bad-state-requires c κs =
     let a = c.before.before.before.before.args in
-    rw c.limits.ensures (omega (arith, (coax-numbers a.code).size))
+    rw c.limits.ensures (omega (arith, (coax_numbers a.code).size))
 
 returns : tie.Need-returns
 returns c =
@@ -24,9 +24,9 @@ returns c =
     let number = twelfth.before in
     let exact = number.before.payload-places.ensures in
     let a = number.before.before.args in
-    let f = coaxFormat a.code in
-    let all : checks (coaxCode a.code) ≡ tailBits f = omega arith in
-    told-tested (coaxFinishOrder f a.stream a.room) tt c.first-told.ensures
+    let f = coax_format a.code in
+    let all : checks (coax_code a.code) ≡ tail_bits f = omega arith in
+    told_tested (coax_finish_order f a.stream a.room) tt c.first-told.ensures
     (test (rw number.number.ensures at twelfth.differs.ensures) (λ serves.
     test (rw seventh.before.limits.ensures at seventh.bad-state.ensures) (λ held.
     test (rw exact at first.outside.ensures) (λ good.

@@ -1,0 +1,30 @@
+-- `states::write` meets its contract.
+use borrow.Author.Rules.{rules}
+use mathlib.Core.Path.{◌≡◌, sym}
+use Prim.Native.Nat.{◌^◌, ◌<◌}
+use native.Mathlib.Omega.{arith}
+use lib.ListN.{length, length-take, length-drop}
+use Rattle.rules.specs.Streams.{stream_bytes}
+use Rattle.states.proofs.States.{state_written}
+use Rattle.states.proofs.write.Goals as goal
+
+pub copy-requires : goal.copy-requires
+copy-requires c =
+    let a = c.args in
+    let long : stream_bytes ≡ length a.stream.checks = slice-aggregate-copy c in
+    let same = c.store.ensures.length_same in
+    let same₂ = c.store-2.ensures.length_same in
+    simp (length-take, length-drop) (omega (arith, long, same, same₂))
+
+pub returns : goal.returns
+returns c =
+    let a = c.args in
+    let good = c.well-formed in
+    let n< : a.stream.number < 2 ^ 64 = search rules in
+    let h< : a.stream.held < 2 ^ 64 = search rules in
+    let long : stream_bytes ≡ length a.stream.checks = slice-aggregate-copy c in
+    let same = c.store.ensures.length_same in
+    let same₂ = c.store-2.ensures.length_same in
+    state_written a.stream.number a.stream.held a.stream.checks n< h< c.store.ensures
+    c.store-2.ensures (omega (arith, same, same₂)) c.copy.ensures (sym long)
+    (λ i. (c.slice_known-4-1.given i).fits)
