@@ -5,15 +5,15 @@ use native.Mathlib.Omega.{arith}
 use Rattle.refusals.proofs.Unused.{unused_none, unused_found, unused_clear}
 use Rattle.refusals.proofs.unused_set.Goals as goal
 
-returns : tie.Need-returns
-returns c l = let a = c.before.before.args in inr (unused_none a.s.now a.count l c.if1.true, refl)
+pub returns-then-s-last : goal.returns-then-s-last
+returns-then-s-last c l = let a = c.args in inr (unused_none a.s.now a.count l c.if-s-last.true, refl)
 
-returns-2 : tie.Need-returns-2
-returns-2 c l =
-    let a = c.before.before.before.before.before.args in
-    inl (unused_found a.s.now a.count l (omega arith) c.before.first_set.ensures c.if2.true, refl)
+pub returns-then-first_set-lt8 : goal.returns-then-first_set-lt8
+returns-then-first_set-lt8 c l =
+    let a = c.args in
+    inl (unused_found a.s.now a.count l (omega arith) c.first_set.ensures c.if-first_set-lt8.true, refl)
 
-returns-3 : tie.Need-returns-3
-returns-3 c l =
-    let a = c.before.before.before.before.before.args in
-    inr (unused_clear a.s.now a.count l (omega arith) c.before.first_set.ensures c.if2.false, refl)
+pub returns : goal.returns
+returns c l =
+    let a = c.args in
+    inr (unused_clear a.s.now a.count l (omega arith) c.first_set.ensures c.if-first_set-lt8.false, refl)
