@@ -12,9 +12,6 @@ loop-k-init c =
     let a = c.args in
     (search rules, followed_none a.size a.recipe.now a.registers.now)
 
-pub overflow-cast-parts : goal.overflow-cast-parts
-overflow-cast-parts c = omega (arith, c.shared_slice_known-in-loop-k-1.given c.loop-k.k)
-
 pub overflow_mul-turn : goal.overflow_mul-turn
 overflow_mul-turn c = omega (arith, c.shared_slice_known-in-loop-k-1.given c.loop-k.k)
 

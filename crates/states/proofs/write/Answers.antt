@@ -11,7 +11,7 @@ use Rattle.states.proofs.write.Goals as goal
 pub copy-requires : goal.copy-requires
 copy-requires c =
     let a = c.args in
-    let long : stream_bytes ≡ length a.stream.checks = slice-aggregate-copy c in
+    let long : stream_bytes ≡ length a.stream.checks = search rules in
     let same = c.store.ensures.length_same in
     let same₂ = c.store-2.ensures.length_same in
     simp (length-take, length-drop) (omega (arith, long, same, same₂))
@@ -19,10 +19,10 @@ copy-requires c =
 pub returns : goal.returns
 returns c =
     let a = c.args in
-    let good = c.well-formed in
+    let good = c.well_formed in
     let n< : a.stream.number < 2 ^ 64 = search rules in
     let h< : a.stream.held < 2 ^ 64 = search rules in
-    let long : stream_bytes ≡ length a.stream.checks = slice-aggregate-copy c in
+    let long : stream_bytes ≡ length a.stream.checks = search rules in
     let same = c.store.ensures.length_same in
     let same₂ = c.store-2.ensures.length_same in
     state_written a.stream.number a.stream.held a.stream.checks n< h< c.store.ensures
