@@ -1,6 +1,5 @@
 -- `parity::solve` meets its contract: the recipe is followed from the checks and zeros after them. The code's constant
 -- is the recipe, by computing both.
-use borrow.Author.Rules.{rules}
 use mathlib.Core.Path.{◌≡◌, refl, sym, ◌∙◌}
 use mathlib.Core.List.{List, ◌++◌}
 use Prim.Native.Nat.{ℕ, ◌+◌, ◌-◌, ◌*◌, ◌/◌, ◌≤◌, ◌<◌}
@@ -14,8 +13,7 @@ use Rattle.laws.proofs.Bits.{bit_front, bit_back, bit_zeros, bit_past, bit_part}
 use Rattle.recipes.proofs.Steps.{codes_fit, followed_own}
 use Rattle.parity.proofs.Recipe.{recipe}
 use Rattle.parity.proofs.Solved.{registers, fibre_solves, fibre_coded}
-use Rattle.parity.proofs.solve.Statement.{statement}
-use Rattle.parity.proofs.solve.Tie as tie
+use Rattle.parity.proofs.solve.Goals as goal
 
 -- the bytes of the checks, and of a parity; those of all registers; and those after the checks
 abbrev parityBytes : ℕ
@@ -48,34 +46,26 @@ packed p long = record {
   unused = λ u. let l = u.1 in omega (arith, u.2, bit_past p u.0 (omega arith));
 }
 
-slice-aggregate-follow : tie.Need-slice-aggregate-follow
-slice-aggregate-follow c = sym (size c.before.before.copy.new.0 (omega arith))
+pub slice_bounds-follow-end : goal.slice_bounds-follow-end
+slice_bounds-follow-end c = sym (size c.copy.new.to (omega arith))
 
-follow-requires : tie.Need-follow-requires
+pub follow-requires : goal.follow-requires
 unfolding recipe
-follow-requires c κs =
-    let long = size c.before.before.before.copy.new.0 (omega arith) in
+follow-requires c =
+    let long = size c.copy.new.to (omega arith) in
     (lit< tt, lit≤ tt, omega arith, codes_fit fibre_solves fibre_coded refl _ (omega arith))
 
-returns : tie.Need-returns
+pub returns : goal.returns
 unfolding recipe
 returns c =
-    let read = c.before.before.copy2 in
-    let done = c.before.before.before.before.before.before.before in
-    let begun = done.before.before.before.before.copy in
-    let s = begun.new.0 in
-    let y = done.follow.new.0 in
+    let read = c.copy-2 in
+    let begun = c.copy in
+    let s = begun.new.to in
+    let y = c.follow.new.registers in
     let long : length s ≡ parityBytes = omega arith in
-    let made = done.follow.ensures.length_same in
+    let made = c.follow.ensures.length_same in
     rw (read.ensures, ← begun.ensures)
     (followed_own fibre_solves fibre_coded refl (s ++ replicate restBytes 0) y s _ (begins s long) (clear s long)
-    done.follow.ensures
+    c.follow.ensures
     (packed _ (simp (length-take, length-drop) (omega (arith, made, size s long))))
     (λ t h. bit_part y parityBytes parityBytes t (omega arith)))
-
-pub solve-spec : {M : Type 1} → statement M
-solve-spec =
-    tie.close
-    (tie.spec (λ c. search rules) (λ c. search rules) (λ c κs. search rules) slice-aggregate-follow
-    (λ c. search rules) follow-requires (λ c. search rules) (λ c. search rules) (λ c. search rules)
-    (λ c κs. search rules) (λ c. search rules) returns)

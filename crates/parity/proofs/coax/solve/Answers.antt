@@ -1,5 +1,4 @@
 -- `parity::coax::solve` meets its contract: the recipe is followed from the checks and zeros after them.
-use borrow.Author.Rules.{rules}
 use mathlib.Core.Path.{◌≡◌, refl, ap, ◌∙◌}
 use mathlib.Core.List.{List, ◌++◌}
 use Prim.Native.Nat.{ℕ, ◌+◌, ◌*◌, ◌<◌}
@@ -19,8 +18,7 @@ use Rattle.recipes.specs.Steps.{Followed}
 use Rattle.recipes.proofs.Steps.{codes_fit, followed_own}
 use Rattle.parity.specs.CoaxRecipes.{coax_steps}
 use Rattle.parity.proofs.CoaxSolved.{coax_solves, coax_coded}
-use Rattle.parity.proofs.coax.solve.Statement.{statement}
-use Rattle.parity.proofs.coax.solve.Tie as tie
+use Rattle.parity.proofs.coax.solve.Goals as goal
 
 -- bytes s that are all cleared
 module _ (s : List ℕ) {z : List ℕ} (cleared : z ≡ replicate (length s) 0 ++ drop (length s) s) where
@@ -48,58 +46,41 @@ solved k m s x y z p put done clear long read =
     done (moved_packed b (λ n. bit< y (b + n)) clear read long)
     (moved_bit b (λ n. bit< y (b + n)) clear read)
 
-add-run-requires : tie.Need-add-run-requires
-add-run-requires c κs =
-    let all = c.before.before.checks.ensures in
-    let n = coax_numbers c.before.before.before.before.before.before.args.code in
+pub add_run-requires : goal.add_run-requires
+add_run-requires c =
+    let all = c.checks-all.ensures in
+    let n = coax_numbers c.args.code in
     (omega (arith, n.size), omega arith)
 
-follow-requires : tie.Need-follow-requires
-follow-requires c κs =
-    let told = c.before.before.before.before.before in
-    let size = told.before.before.size.ensures in
-    let k = told.before.before.before.before.before.args.code in
+pub follow-requires : goal.follow-requires
+follow-requires c =
+    let size = c.size-size.ensures in
+    let k = c.args.code in
     let n = coax_numbers k in
-    rw (size, told.recipe-of.ensures) (
+    rw (size, c.recipe_of-recipe.ensures) (
       n.some,
       omega (arith, n.size),
       omega arith,
       codes_fit (coax_solves k) (coax_coded k) refl _ (omega (arith, n.size)),
     )
 
-add-run-requires-2 : tie.Need-add-run-requires-2
-add-run-requires-2 c κs =
-    let cleared = c.before.before.before.before in
-    let followed = cleared.before.before.before in
-    let told = followed.before.before.before.before.before.before in
-    let start = told.before.before.before.before.before in
-    let n = coax_numbers start.args.code in
-    let long = cleared-length start.args.parity.now cleared.clear.ensures in
-    let all = told.before.checks.ensures in
-    let made = followed.follow.ensures.length_same in
-    let begun = followed.before.before.before.before.add-run.ensures.length_same in
+pub add_run-requires-2 : goal.add_run-requires-2
+add_run-requires-2 c =
+    let n = coax_numbers c.args.code in
+    let long = cleared-length c.args.parity.now c.clear.ensures in
+    let all = c.checks-all.ensures in
+    let made = c.follow.ensures.length_same in
+    let begun = c.add_run.ensures.length_same in
     (omega arith, omega (arith, n.size))
 
-returns : tie.Need-returns
+pub returns : goal.returns
 returns c =
-    let cleared = c.before.before.before.before.before.before.before in
-    let followed = cleared.before.before.before in
-    let put = followed.before.before.before.before in
-    let told = put.before.before in
-    let start = told.before.before.before.before.before in
-    let s = start.args.checks.now in
-    let p = start.args.parity.now in
-    let all = told.before.checks.ensures in
-    let clear = cleared.clear.ensures in
-    solved start.args.code 450 s put.add-run.new.0 followed.follow.new.0 cleared.clear.new.0 _
-    (rw all at put.add-run.ensures)
-    (rw (told.before.before.size.ensures, told.recipe-of.ensures) at followed.follow.ensures)
-    (cleared-bit p clear) (cleared-length p clear ∙ start.requires.1)
-    (rw all at c.before.before.add-run2.ensures)
-
-pub solve-spec : {M : Type 1} → statement M
-solve-spec =
-    tie.close
-    (tie.spec (λ c κs. search rules) (λ c κs. search rules) (λ c κs. search rules) (λ c. search rules) add-run-requires
-    (λ c. search rules) (λ c. search rules) follow-requires (λ c κs. search rules) (λ c. search rules)
-    add-run-requires-2 (λ c. search rules) returns)
+    let s = c.args.checks.now in
+    let p = c.args.parity.now in
+    let all = c.checks-all.ensures in
+    let clear = c.clear.ensures in
+    solved c.args.code 450 s c.add_run.new.s c.follow.new.registers c.clear.new.s _
+    (rw all at c.add_run.ensures)
+    (rw (c.size-size.ensures, c.recipe_of-recipe.ensures) at c.follow.ensures)
+    (cleared-bit p clear) (cleared-length p clear ∙ c.requires.1)
+    (rw all at c.add_run-2.ensures)
