@@ -55,8 +55,7 @@ fn judgement_number(judgement: Judgement) -> u64
 }
 
 // Encodes a payload.
-#[unsafe(no_mangle)]
-pub extern "C" fn birdovesta_encode(
+pub fn birdovesta_encode(
     bits: usize,
     payload: &[u8],
     delimiter: usize,
@@ -71,21 +70,14 @@ pub extern "C" fn birdovesta_encode(
 }
 
 // Checks a full word.
-#[unsafe(no_mangle)]
-pub extern "C" fn birdovesta_check_word(
-    bits: usize,
-    word: &[u8],
-    first: &[u8],
-    second: &[u8],
-) -> u64
+pub fn birdovesta_check_word(bits: usize, word: &[u8], first: &[u8], second: &[u8]) -> u64
     ensures { HostWord first.now second.now bits word.now result }
 {
     judgement_number(word::check(bits, word, first, second))
 }
 
 // Checks a line word.
-#[unsafe(no_mangle)]
-pub extern "C" fn birdovesta_check_line(
+pub fn birdovesta_check_line(
     bits: usize,
     line: &[u8],
     delimiter: usize,

@@ -28,8 +28,7 @@ fn hand_back(outcome: Outcome, state: &mut [u8]) -> u64
 }
 
 // Takes a piece of a fibre stream.
-#[unsafe(no_mangle)]
-pub extern "C" fn birdovesta_stream_piece(
+pub fn birdovesta_stream_piece(
     state: &mut [u8],
     bits: usize,
     piece: &[u8],
@@ -47,8 +46,7 @@ pub extern "C" fn birdovesta_stream_piece(
 }
 
 // Finishes a fibre stream.
-#[unsafe(no_mangle)]
-pub extern "C" fn birdovesta_stream_finish(
+pub fn birdovesta_stream_finish(
     state: &mut [u8],
     delimiter: usize,
     first: &[u8],
@@ -88,15 +86,13 @@ fn finish_by(code: CoaxCode, state: &mut [u8], parity: &mut [u8]) -> u64
 }
 
 // The two of the longer coax code.
-#[unsafe(no_mangle)]
-pub extern "C" fn birdovesta_stream_piece_16200(state: &mut [u8], bits: usize, piece: &[u8]) -> u64
+pub fn birdovesta_stream_piece_16200(state: &mut [u8], bits: usize, piece: &[u8]) -> u64
     ensures { HostCoaxPiece CoaxCode.Long bits piece.now state.old result state.new }
 {
     piece_by(CoaxCode::Long, state, bits, piece)
 }
 
-#[unsafe(no_mangle)]
-pub extern "C" fn birdovesta_stream_finish_16200(state: &mut [u8], parity: &mut [u8]) -> u64
+pub fn birdovesta_stream_finish_16200(state: &mut [u8], parity: &mut [u8]) -> u64
     ensures { HostCoaxFinish CoaxCode.Long state.old parity.old result state.new
         parity.new }
 {
@@ -104,15 +100,13 @@ pub extern "C" fn birdovesta_stream_finish_16200(state: &mut [u8], parity: &mut 
 }
 
 // The two of the shorter coax code.
-#[unsafe(no_mangle)]
-pub extern "C" fn birdovesta_stream_piece_5940(state: &mut [u8], bits: usize, piece: &[u8]) -> u64
+pub fn birdovesta_stream_piece_5940(state: &mut [u8], bits: usize, piece: &[u8]) -> u64
     ensures { HostCoaxPiece CoaxCode.Short bits piece.now state.old result state.new }
 {
     piece_by(CoaxCode::Short, state, bits, piece)
 }
 
-#[unsafe(no_mangle)]
-pub extern "C" fn birdovesta_stream_finish_5940(state: &mut [u8], parity: &mut [u8]) -> u64
+pub fn birdovesta_stream_finish_5940(state: &mut [u8], parity: &mut [u8]) -> u64
     ensures { HostCoaxFinish CoaxCode.Short state.old parity.old result state.new
         parity.new }
 {
