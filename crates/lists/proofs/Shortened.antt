@@ -2,13 +2,12 @@
 --
 --   listed_names          each entry of a list of n places names one of them
 --   shortened_lowest, shortened_nowhere    the search of the shortened places of the fibre code
-use mathlib.Core.Path.{◌≡◌, sym, subst}
+use mathlib.Core.Path.{sym, subst}
 use mathlib.Core.List.{List}
-use Prim.Native.Nat.{ℕ, ◌*◌, ◌≤◌, ◌<◌}
+use Prim.Native.Nat.{ℕ, ◌≤◌, ◌<◌}
 use native.Mathlib.Omega.{arith}
-use lib.ListN.{length}
 use Rattle.rules.specs.Bits.{bit}
-use Rattle.rules.specs.Lists.{entry_of, Listed, place_in}
+use Rattle.rules.specs.Lists.{Listed}
 use Rattle.rules.specs.Matrix.{places_of_payload}
 use Rattle.rules.specs.Table.{fibre}
 use Rattle.rules.specs.Verdicts.{Lowest, Nowhere, ShortenedSet}

@@ -1,7 +1,7 @@
 -- The inner places of the fibre code, as bytes: bits of outer ones that were picked by the first list.
 --
 --   inner_blocks    the payload blocks of such bytes are the outer places, reordered
-use mathlib.Core.Path.{◌≡◌, refl, sym, ap, ◌∙◌}
+use mathlib.Core.Path.{◌≡◌, sym, ap, ◌∙◌}
 use mathlib.Core.List.{List}
 use Prim.Native.Nat.{ℕ, ◌-◌, ◌*◌, ◌≤◌}
 use native.Mathlib.Omega.{arith}

@@ -12,7 +12,7 @@ use native.Mathlib.Decide.{dec_lt}
 use native.Mathlib.Omega.{arith}
 use lib.Dec.{lit<}
 use lib.Pow.{pow-add}
-use lib.ListN.{length, get_or, take, drop, length-take, length-drop, get_or-eq_default}
+use lib.ListN.{length, take, drop, length-take, length-drop, get_or-eq_default}
 use lib.Seq.{get_or-take, get_or-drop, length-take-le, drop_at}
 use Rattle.rules.specs.Bits.{bit, Bytes}
 use Rattle.rules.specs.Words.{digit}

@@ -23,7 +23,7 @@ use native.Mathlib.Omega.{arith}
 use lib.Dec.{lit<}
 use lib.ListN.{length, length-replicate}
 use Rattle.rules.specs.Bits.{bit, Bytes, zeros, run, placed, sum, Packed}
-use Rattle.rules.specs.Matrix.{checks, places_of_payload, check}
+use Rattle.rules.specs.Matrix.{places_of_payload}
 use Rattle.rules.specs.Formats.{Format}
 use Rattle.rules.specs.Words.{padded, reordered, tail_bits}
 use Rattle.rules.specs.Streams.{stream_bytes, fresh, Fed}

@@ -1,6 +1,6 @@
 -- `lists::keep` meets its contract. The invariant: the first i bytes are joined, and the others as they were.
 use mathlib.Core.Path.{◌≡◌}
-use Prim.Native.Nat.{ℕ, min, ◌-◌, ◌*◌, ◌≤◌, ◌<◌}
+use Prim.Native.Nat.{ℕ, min, ◌*◌, ◌≤◌, ◌<◌}
 use lib.ListN.{length, get_or}
 use Rattle.rules.specs.Bits.{bit}
 use Rattle.lists.proofs.keep.Given as goal

@@ -1,6 +1,6 @@
 -- `refusals::first_told` meets its contract: no number before place i is told.
 use mathlib.Core.Path.{◌≡◌}
-use Prim.Native.Nat.{◌-◌, ◌≤◌}
+use Prim.Native.Nat.{◌≤◌}
 use lib.ListN.{length, drop}
 use Rattle.rules.specs.Terms.{first_of}
 use Rattle.refusals.proofs.first_told.Given as goal

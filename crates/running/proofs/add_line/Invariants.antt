@@ -1,5 +1,5 @@
 -- `running::add_line` meets its contract. The invariant: the entries passed have added what they take.
-use Prim.Native.Nat.{◌+◌, ◌-◌, ◌*◌, ◌≤◌}
+use Prim.Native.Nat.{◌+◌, ◌*◌, ◌≤◌}
 use lib.ListN.{length}
 use Rattle.rules.specs.Bits.{bit, zeros, run, Adds}
 use Rattle.rules.specs.Terms.{through}

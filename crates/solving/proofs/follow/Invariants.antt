@@ -1,5 +1,5 @@
 -- `solving::follow` meets its contract. The invariant: the first k steps are done.
-use Prim.Native.Nat.{◌-◌, ◌≤◌}
+use Prim.Native.Nat.{◌≤◌}
 use lib.ListN.{length, take}
 use Rattle.recipes.specs.Steps.{Followed}
 use Rattle.solving.proofs.follow.Given as goal
