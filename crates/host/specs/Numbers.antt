@@ -1,6 +1,7 @@
 -- The numbers that the C host is answered.
 --
---   number_of_cause c       cause x 2^32 + count x 2^16 + place, with cause 1 shortened, 2 check, 3 parity, 4 delimiter;
+--   number_of_cause c       cause x 2^32 + count x 2^16 + place, with cause 1 shortened, 2 check, 3 parity, 4
+--                           delimiter;
 --                       the count is that of failing rows, and 0 for the other causes
 --   number_of_verdict v     0 for accepted
 --   number_of_judgement j   the refusal's number, or the verdict's

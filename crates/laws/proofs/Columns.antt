@@ -57,7 +57,8 @@ from_zero (negsuc n) h = let z : ◌≡◌ {A = ℕ} 0 1 = cc in absurd (omega a
 abbrev told : ℤ → ℤ
 told a = to_z w16 (of_z w16 a)
 
-pub turn_fits : {a : ℤ} → SFits w16 a → lt_z (told a) (pos 0) ≡ false → T (non_neg (told a)) × Fits w64 (nat_abs (told a))
+pub turn_fits : {a : ℤ} → SFits w16 a → lt_z (told a) (pos 0) ≡ false → T (non_neg (told a))
+    × Fits w64 (nat_abs (told a))
 turn_fits {a} fits t = rw (to_z-of_z fits) ((from_zero a (rw (to_z-of_z fits) at t)).0, Fits-nat_abs tt fits)
 
 module _ {a e : ℤ} (fits : SFits w16 a) (same : a ≡ e) where

@@ -31,7 +31,8 @@ not_bad n l h = ⊎_elim (λ d. d h.bytes) (λ d. d h.reorders)
 
 -- lists of n and of m places, and the order o after their refusal
 module _ (n m : ℕ) (o : List Refusal) where
-  passes_by : (g : ℕ → Bool) → g 16 ≡ true → (v : Lists) → T (numbers_pass g o) → T (numbers_pass g (bad_lists n m v ++ o))
+  passes_by : (g : ℕ → Bool) → g 16 ≡ true → (v : Lists) → T (numbers_pass g o)
+      → T (numbers_pass g (bad_lists n m v ++ o))
   passes_by g s none h = h
   passes_by g s (pair a b) h = rw s h
 

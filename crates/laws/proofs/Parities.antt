@@ -156,7 +156,8 @@ module _ (c : Code) where
   pub payload_found : (x y : ℕ → ℕ) (k : ℕ) (s p : List ℕ) → Adds (replicate k 0) s (λ n. check c n y)
       → ((n : ℕ) → n < places c → y n ≡ run (places_of_payload c) x zeros n) → OwnChecks c s p → Parity c x p
   payload_found x y k s p added same =
-      payload_parity x s p (λ n h. checks_again c y k added n ∙ check_same c n y (run (places_of_payload c) x zeros) same)
+      payload_parity x s p (λ n h. checks_again c y k added n
+      ∙ check_same c n y (run (places_of_payload c) x zeros) same)
 
   pub parity_as : {x y : ℕ → ℕ} {p : List ℕ} → ((n : ℕ) → n < places_of_payload c → x n ≡ y n) → Parity c x p
       → Parity c y p
@@ -168,7 +169,8 @@ module _ (c : Code) where
         ∙ h.all_hold n k;
   }
 
-  pub parity_filled : (K : ℕ) {x : ℕ → ℕ} {p : List ℕ} → places_of_payload c ≤ K → Parity c x p → Parity c (padded K x) p
+  pub parity_filled : (K : ℕ) {x : ℕ → ℕ} {p : List ℕ} → places_of_payload c ≤ K → Parity c x p
+      → Parity c (padded K x) p
   parity_filled K {x} most = parity_as (λ n h. sym (run_low K x zeros n (omega arith)))
 
   -- the payload's checks, as bytes
@@ -178,7 +180,8 @@ module _ (c : Code) where
   bytes_checks : (x : ℕ → ℕ) → PayloadChecks x (check_bytes x)
   unfolding check_bytes
   bytes_checks x n h =
-      bit_pack (need (checks c)) (payload_checks x) n (omega arith) (check_below c n (run (places_of_payload c) x zeros))
+      bit_pack (need (checks c)) (payload_checks x) n (omega arith)
+      (check_below c n (run (places_of_payload c) x zeros))
 
   bytes_own : (x : ℕ → ℕ) (p : List ℕ) → Parity c x p → OwnChecks c (check_bytes x) p
   bytes_own x p = payload_own x (check_bytes x) p (bytes_checks x)

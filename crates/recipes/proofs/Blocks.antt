@@ -83,7 +83,8 @@ after_none Z d s x k = go (eqb k d) refl
 after_more : (Z d s a : ℕ) (ts : List ℕ) → eqb s d ≡ false → (x : Blocks) (k : ℕ)
     → after Z d s ts (step Z (add d s a) x) k ≡ after Z d s (a ∷ ts) x k
 after_more Z d s a ts apart x k =
-    ap₂ (λ (f g : ℕ → Bool). cond (eqb k d) ((block_kind Z).plus f g ts) (step Z (add d s a) x k)) to from ∙ go (eqb k d)
+    ap₂ (λ (f g : ℕ → Bool). cond (eqb k d) ((block_kind Z).plus f g ts) (step Z (add d s a) x k)) to from
+    ∙ go (eqb k d)
   where
     sum : ℕ → Bool
     sum r = x d r ⊕ x s ((r + a) % Z)

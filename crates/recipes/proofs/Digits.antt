@@ -53,7 +53,8 @@ lower [] = []
 lower (zero ∷ ts) = lower ts
 lower (suc t ∷ ts) = t ∷ lower ts
 
-sum_of_lower_law : (f : ℕ → Bool) (ts : List ℕ) → sum_of f ts ≡ times (unturned ts) (f 0) ⊕ sum_of (λ t. f (suc t)) (lower ts)
+sum_of_lower_law : (f : ℕ → Bool) (ts : List ℕ)
+    → sum_of f ts ≡ times (unturned ts) (f 0) ⊕ sum_of (λ t. f (suc t)) (lower ts)
 sum_of_lower_law f [] = refl
 sum_of_lower_law f (zero ∷ ts) =
     ap (λ (x : Bool). f 0 ⊕ x) (sum_of_lower_law f ts)
@@ -120,7 +121,8 @@ abbrev reduced : ℕ → List ℕ → List ℕ
 reduced Z [] = []
 reduced Z (t ∷ ts) = t % Z ∷ reduced Z ts
 
-turned_by_reduced_law : (Z : ℕ) (ts : List ℕ) (f : ℕ → Bool) (r : ℕ) → turned_by Z (reduced Z ts) f r ≡ turned_by Z ts f r
+turned_by_reduced_law : (Z : ℕ) (ts : List ℕ) (f : ℕ → Bool) (r : ℕ)
+    → turned_by Z (reduced Z ts) f r ≡ turned_by Z ts f r
 turned_by_reduced_law Z [] f r = refl
 turned_by_reduced_law Z (t ∷ ts) f r = ap₂ ◌⊕◌ (ap f (add-mod-mod r t Z)) (turned_by_reduced_law Z ts f r)
 

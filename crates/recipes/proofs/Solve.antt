@@ -33,11 +33,13 @@ start m = firsts m (λ k j. own (eqb k j))
 
 backward_uniform : (m o : ℕ) (e : ℕ → ℕ → ℤ) (R : List Group) → Uniform (backward m o e R)
 backward_uniform m o e R K L S alike g h l =
-    to_blocks_uniform_law R o K L S alike (to_checks e m K g) (to_checks e m L h) (to_checks_uniform_law e m K L S alike g h l)
+    to_blocks_uniform_law R o K L S alike (to_checks e m K g) (to_checks e m L h)
+    (to_checks_uniform_law e m K L S alike g h l)
 
 forward_uniform : (m o : ℕ) (e : ℕ → ℕ → ℤ) (R : List Group) → Uniform (forward m o e R)
 forward_uniform m o e R K L S alike g h l =
-    to_checks_uniform_law e m K L S alike (to_blocks R o K g) (to_blocks R o L h) (to_blocks_uniform_law R o K L S alike g h l)
+    to_checks_uniform_law e m K L S alike (to_blocks R o K g) (to_blocks R o L h)
+    (to_blocks_uniform_law R o K L S alike g h l)
 
 own_turned : (Z : ℕ) (b : Bool) (f : ℕ → Bool) (r : ℕ) → r < Z → turned_by Z (own b) f r ≡ cond b (f r) false
 own_turned Z true f r h = xor_none (f ((r + 0) % Z)) ∙ ap f (ap (λ (n : ℕ). n % Z) (add-zero r) ∙ mod-eq_of_lt h)

@@ -61,12 +61,14 @@ turned_by_product_law : (Z : ℕ) (ts us : List ℕ) (f : ℕ → Bool) (r : ℕ
     → turned_by Z (product ts us) f r ≡ turned_by Z ts (turned_by Z us f) r
 turned_by_product_law Z [] us f r = refl
 turned_by_product_law Z (a ∷ ts) us f r =
-    sum_of_append_law _ (later a us) (product ts us) ∙ ap₂ ◌⊕◌ (turned_by_later_law Z a us f r) (turned_by_product_law Z ts us f r)
+    sum_of_append_law _ (later a us) (product ts us)
+    ∙ ap₂ ◌⊕◌ (turned_by_later_law Z a us f r) (turned_by_product_law Z ts us f r)
 
 turned_by_plus_law : (Z : ℕ) (ts us vs : List ℕ) (f : ℕ → Bool) (r : ℕ)
     → turned_by Z (us ++ product ts vs) f r ≡ turned_by Z us f r ⊕ turned_by Z ts (turned_by Z vs f) r
 turned_by_plus_law Z ts us vs f r =
-    sum_of_append_law _ us (product ts vs) ∙ ap (λ (x : Bool). turned_by Z us f r ⊕ x) (turned_by_product_law Z ts vs f r)
+    sum_of_append_law _ us (product ts vs)
+    ∙ ap (λ (x : Bool). turned_by Z us f r ⊕ x) (turned_by_product_law Z ts vs f r)
 
 spread_plus : (Z m : ℕ) (p : Blocks) (x y : ℕ → List ℕ) (ts : List ℕ) (r : ℕ)
     → spread Z m p (rows.plus x y ts) r ≡ spread Z m p x r ⊕ turned_by Z ts (spread Z m p y) r

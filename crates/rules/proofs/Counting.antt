@@ -25,5 +25,6 @@ how_many_some_law b f n l e = omega (arith, total_part b (λ n. as_bit (f n)) n 
 pub how_many_below_law : (b : ℕ) (f : ℕ → Bool) → how_many b f ≤ b
 how_many_below_law b f = total_below b _ (λ n. as_bit_below_law (f n))
 
-pub how_many_more_law : (b m : ℕ) (f : ℕ → Bool) (v : Bool) → m ≡ how_many b f → f b ≡ v → m + as_bit v ≡ how_many (b + 1) f
+pub how_many_more_law : (b m : ℕ) (f : ℕ → Bool) (v : Bool) → m ≡ how_many b f → f b ≡ v
+    → m + as_bit v ≡ how_many (b + 1) f
 how_many_more_law b m f v e h = ap (λ (v : Bool). m + as_bit v) (sym h) ∙ total_more (λ n. as_bit (f n)) b m e

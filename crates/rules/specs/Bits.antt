@@ -16,7 +16,8 @@
 --   Adds s t f       t is s with f n added, mod 2, to bit n, for each n
 --
 -- Believe this file beside the paper; nothing here is proved.
-use Rattle.std.specs.Prelude.{◌≡◌, cond, List, ℕ, ◌+◌, ◌-◌, ◌*◌, ◌/◌, ◌%◌, ◌^◌, ◌≤◌, ◌<◌, ltb, eqb, length, get_or, drop}
+use Rattle.std.specs.Prelude.{◌≡◌, cond, List, ℕ, ◌+◌, ◌-◌, ◌*◌, ◌/◌, ◌%◌, ◌^◌, ◌≤◌}
+use Rattle.std.specs.Prelude.{◌<◌, ltb, eqb, length, get_or, drop}
 
 abbrev pub bit : List ℕ → ℕ → ℕ
 bit s n = get_or s (n / 8) 0 / 2 ^ (n % 8) % 2

@@ -3,7 +3,8 @@
 --
 --   coax_code k               the code k: blocks of 360 or of 180, five block rows, 45 or 33 block columns
 --                            (coax_size, coax_columns), and its table's lines (coax_lines)
---   coax_format k             its format: number 2 or 3 (coax_number); payloads of exactly the payload places, 14,400 or
+--   coax_format k             its format: number 2 or 3 (coax_number); payloads of exactly the payload places,
+--                             14,400 or
 --                            5,040; all parity is sent
 --   coax_encode_order f K u m  the order of encode, to m bytes
 --   coax_word_order f K w      of complete and of the check

@@ -15,7 +15,8 @@
 --   checks_of c p      the checks that place p is in, lowest first
 --
 -- Believe this file beside the paper; nothing here is proved.
-use Rattle.std.specs.Prelude.{◌≡◌, cond, List, [], ◌∷◌, ◌++◌, ℕ, zero, suc, ◌+◌, ◌-◌, ◌*◌, ◌/◌, ◌%◌, ◌<◌, eqb, ℤ, pos, negsuc, get_or}
+use Rattle.std.specs.Prelude.{◌≡◌, cond, List, [], ◌∷◌, ◌++◌, ℕ, zero, suc, ◌+◌, ◌-◌, ◌*◌, ◌/◌}
+use Rattle.std.specs.Prelude.{◌%◌, ◌<◌, eqb, ℤ, pos, negsuc, get_or}
 
 pub record Code : Type 0 where
   pub size : ℕ

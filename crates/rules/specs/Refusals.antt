@@ -95,7 +95,8 @@ of_piece f t b s = of_stream f t ++ wrong_bytes s b ∷ with_unused_set s b ∷ 
 -- encode: 16, 1, 10, 2, 3, 4, 5
 abbrev pub encode_order : Format → ℕ → List ℕ → ℕ → ℕ → List Refusal
 encode_order f K u d room =
-    of_lists f ++ (of_count f K ++ wrong_bytes u K ∷ with_unused_set u K ∷ bad_delimiter f d ∷ no_room room (line_bits f K) ∷ [])
+    of_lists f
+    ++ (of_count f K ++ wrong_bytes u K ∷ with_unused_set u K ∷ bad_delimiter f d ∷ no_room room (line_bits f K) ∷ [])
 
 -- piece: 16, 12, 7, 2, 3, 6
 abbrev pub piece_order : Format → Stream → ℕ → List ℕ → List Refusal
@@ -117,4 +118,5 @@ word_order f K w = of_lists f ++ (of_count f K ++ wrong_bytes w (places f.code) 
 -- line check: 16, 1, 10, 2, 3, 4
 abbrev pub line_order : Format → ℕ → List ℕ → ℕ → List Refusal
 line_order f K l d =
-    of_lists f ++ (of_count f K ++ wrong_bytes l (line_bits f K) ∷ with_unused_set l (line_bits f K) ∷ bad_delimiter f d ∷ [])
+    of_lists f
+    ++ (of_count f K ++ wrong_bytes l (line_bits f K) ∷ with_unused_set l (line_bits f K) ∷ bad_delimiter f d ∷ [])

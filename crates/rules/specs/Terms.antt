@@ -12,7 +12,8 @@
 --   by_first a       the fibre code where the payload goes in by the list a; what does not ask for the parity's order
 --   by_second b      and where the parity goes out by the list b; what does not ask for the payload's order
 --   limits f        what a code asks of a stream, as the numbers that a test is given
-use Rattle.std.specs.Prelude.{◌≡◌, Bool, cond, List, [], ◌∷◌, ℕ, ◌+◌, ◌*◌, ◌/◌, ◌%◌, T, ltb, eqb, ℤ, pos, negsuc, get_or}
+use Rattle.std.specs.Prelude.{◌≡◌, Bool, cond, List, [], ◌∷◌, ℕ, ◌+◌, ◌*◌, ◌/◌, ◌%◌, T}
+use Rattle.std.specs.Prelude.{ltb, eqb, ℤ, pos, negsuc, get_or}
 use Rattle.rules.specs.Matrix.{Code, checks, places_of_payload}
 use Rattle.rules.specs.Table.{fibre}
 use Rattle.rules.specs.Lists.{place_in, none}

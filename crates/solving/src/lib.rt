@@ -9,7 +9,8 @@ ghost use Rattle.turning.specs.Turning.{held_bits};
 
 // Adds a register, turned, to another. One that is a part of bytes is added faster.
 fn step(registers: &mut [u8], size: usize, target: usize, source: usize, turn: usize)
-    requires { (size ≤ held_bits) × (8 * length registers.old < 2 ^ 64) × (size * target + size ≤ 8 * length registers.old)
+    requires { (size ≤ held_bits) × (8 * length registers.old < 2 ^ 64)
+        × (size * target + size ≤ 8 * length registers.old)
         × (size * source + size ≤ 8 * length registers.old) × (turn < size) }
     ensures { Adds registers.old registers.new
         (placed (size * target) size (λ t. bit registers.old (size * source + (t + turn) % size))) }

@@ -85,7 +85,8 @@ module _ (k : CoaxCode) where
   f = coax_format k
 
   -- a payload of the code's count fills its bytes
-  full : (K : ℕ) (u : List ℕ) → ((bad_count f K).applies → ⊥) → ((wrong_bytes u K).applies → ⊥) → (with_unused_set u K).applies → ⊥
+  full : (K : ℕ) (u : List ℕ) → ((bad_count f K).applies → ⊥) → ((wrong_bytes u K).applies → ⊥)
+      → (with_unused_set u K).applies → ⊥
   full K u count bytes s =
       let least = not_above K (places_of_payload (coax_code k)) (λ l. count (inl l)) in
       let most = not_above (places_of_payload (coax_code k)) K (λ l. count (inr l)) in

@@ -126,7 +126,8 @@ module _ (a b : List ℕ) (K : ℕ) (l : List ℕ) (d : ℕ) where
     line_told : LineChecked (fibre_format a b) K l d (read_back r) × Exactly (r ≡ 0) (GoodLine (fibre_format a b) K l d)
         × Exactly ((0 < r) × (r < 2 ^ 16)) (LineChecked (fibre_format a b) K l d (Refused r))
     line_told =
-        told (LineChecked (fibre_format a b) K l d) _ (line_accepted (fibre_format a b) fibre_one (fibre_sized a b) K l d)
+        told (LineChecked (fibre_format a b) K l d) _
+        (line_accepted (fibre_format a b) fibre_one (fibre_sized a b) K l d)
         (line_fits a b K l d) r x.judgement x.checked x.result
 
     pub host_line_read : LineChecked (fibre_format a b) K l d (read_back r)
@@ -145,5 +146,6 @@ answer_fits j a =
     ⊎_elim (λ x. line_fits x.0 x.1 x.2 x.3 x.4 j x.5)
     (λ x. coax_check_fits x.0 x.1 x.2 j x.3) b) a
 
-pub answers_apart : (i j : Judgement) → CheckAnswer i → CheckAnswer j → number_of_judgement i ≡ number_of_judgement j → i ≡ j
+pub answers_apart : (i j : Judgement) → CheckAnswer i → CheckAnswer j
+    → number_of_judgement i ≡ number_of_judgement j → i ≡ j
 answers_apart i j a b e = apart i j (answer_fits i a) (answer_fits j b) e

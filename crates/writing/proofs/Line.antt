@@ -78,7 +78,8 @@ module _ (s t u : List ℕ) (bt : Bytes t) (bu : Bytes u) where
     tail_written w a =
         written_added w a
         (λ n l. let e : n - 0 ≡ n = omega arith in
-        rw (placed_in 0 (tail_bits f) (tail f p d) n (omega arith) (omega arith), e) (omega (arith, tail_bits_law f p d n)))
+        rw (placed_in 0 (tail_bits f) (tail f p d) n (omega arith) (omega arith), e)
+        (omega (arith, tail_bits_law f p d n)))
         (λ n l. placed_above 0 (tail_bits f) (tail f p d) n (omega arith)) bt bu
 
     pub line_written : (K : ℕ) (x : ℕ → ℕ) → ((n : ℕ) → x n < 2) → Written (line_bits f K) (padded K x) s t

@@ -6,7 +6,8 @@ use Rattle.bits.proofs.add_run.Given as goal
 
 abbrev pub invariant-loop-k : goal.invariant-loop-k
 invariant-loop-k l =
-    (l.k ≤ l.whole) × (l.whole ≡ l.count / 64) × Adds l.initial.s l.s (placed l.at (64 * l.k) (λ t. bit l.from (l.start + t)))
+    (l.k ≤ l.whole) × (l.whole ≡ l.count / 64)
+    × Adds l.initial.s l.s (placed l.at (64 * l.k) (λ t. bit l.from (l.start + t)))
 
 abbrev pub decreases-loop-k : goal.decreases-loop-k
 decreases-loop-k l = l.whole - l.k

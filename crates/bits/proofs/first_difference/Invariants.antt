@@ -7,7 +7,8 @@ use Rattle.bits.proofs.first_difference.Given as goal
 
 abbrev pub invariant-loop-k : goal.invariant-loop-k
 invariant-loop-k l =
-    (l.k ≤ l.whole) × (l.whole ≡ l.count / 64) × Clear (sum (λ n. bit l.s (l.at + n)) (λ n. bit l.other (l.start + n))) (64 * l.k)
+    (l.k ≤ l.whole) × (l.whole ≡ l.count / 64)
+    × Clear (sum (λ n. bit l.s (l.at + n)) (λ n. bit l.other (l.start + n))) (64 * l.k)
 
 abbrev pub decreases-loop-k : goal.decreases-loop-k
 decreases-loop-k l = l.whole - l.k

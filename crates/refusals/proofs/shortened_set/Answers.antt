@@ -18,4 +18,5 @@ returns-then-first_shortened-lt-PAYLOAD_PLACES c =
     inl ((_, (shortened_lowest c.first_shortened.ensures c.if-first_shortened-lt-PAYLOAD_PLACES.true).0), refl)
 
 pub returns : goal.returns
-returns c = inr (λ s. shortened_nowhere c.first_shortened.ensures c.if-first_shortened-lt-PAYLOAD_PLACES.false s.0 s.1, refl)
+returns c =
+    inr (λ s. shortened_nowhere c.first_shortened.ensures c.if-first_shortened-lt-PAYLOAD_PLACES.false s.0 s.1, refl)

@@ -15,7 +15,8 @@ first_set-requires c =
     (search rules, omega (arith, long))
 
 pub returns-then-first_set-lt-STREAM_BITS : goal.returns-then-first_set-lt-STREAM_BITS
-returns-then-first_set-lt-STREAM_BITS c = inl (inr (past_found _ _ _ c.first_set.ensures c.if-first_set-lt-STREAM_BITS.true), refl)
+returns-then-first_set-lt-STREAM_BITS c =
+    inl (inr (past_found _ _ _ c.first_set.ensures c.if-first_set-lt-STREAM_BITS.true), refl)
 
 pub returns : goal.returns
 returns c =

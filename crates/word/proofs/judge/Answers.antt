@@ -17,7 +17,8 @@ first_shortened-place-requires c =
     (search rules, search rules, listed_names c.requires.2 all all (omega arith) (omega arith))
 
 pub returns-then-place-lt-PAYLOAD_PLACES : goal.returns-then-place-lt-PAYLOAD_PLACES
-returns-then-place-lt-PAYLOAD_PLACES c = shortened_lowest c.first_shortened-place.ensures c.if-place-lt-PAYLOAD_PLACES.true
+returns-then-place-lt-PAYLOAD_PLACES c =
+    shortened_lowest c.first_shortened-place.ensures c.if-place-lt-PAYLOAD_PLACES.true
 
 pub returns-then-failing-eq0 : goal.returns-then-failing-eq0
 returns-then-failing-eq0 c =
