@@ -1,11 +1,11 @@
 -- Every answer of the program: the line that says it, and the exit status that goes with it.
 --
---   line_of s              the line of the answer s
---   status_of s            0: as it should be; 1: a verdict other than accepted, or something wrong; 2: refused
---   lesson_line right n    the line of a lesson: right or wrong, and its name n
---   trouble, lost         statuses that go with no answer: wrong use, or trouble with a file; an answer was not written
---   Told s r              r is the status s, or lost
---   Says P s              the answer s is a judgement of which P holds
+--   line_of s            the line of the answer s
+--   status_of s          0: as it should be; 1: a verdict other than accepted, or something wrong; 2: refused
+--   lesson_line right n  the line of a lesson: right or wrong, and its name n
+--   trouble, lost        statuses that go with no answer: wrong use, or trouble with a file; an answer was not written
+--   Told s r             r is the status s, or lost
+--   Says P s             the answer s is a judgement of which P holds
 --
 -- Believe this file; nothing here is proved.
 use Rattle.std.specs.Prelude.{◌≡◌, Bool, cond, ◌⊎◌, List, ◌++◌, ℕ, eqb}

@@ -1,15 +1,15 @@
 -- How a command names a coax code, and what the program's operations promise, by the code that a command serves: just
 -- what the operation of that code does.
 --
---   name_of k           how CODE names the coax code k: by the bits of its words
---   NamedBy s n        what the name s names: the code of that name, or nothing where no code has it
---   number_of c         the number by which a stream says that it serves the code c
---   first_in v          the first list of a pair v, which is both lists joined: its first 29,184 bytes
---   second_in v         the second list: the rest, 6,144 bytes where the pair is as long as it has to be
---   pair_bytes          the bytes of both lists: 35,328
---   fibre_in v          the fibre code by a pair. The coax codes have no lists, and do not read v
---   PlainPair v        a pair of which both lists change nothing
---   EncodedBy c v ..   encode; a coax word has no delimiter
+--   name_of k         how CODE names the coax code k: by the bits of its words
+--   NamedBy s n       what the name s names: the code of that name, or nothing where no code has it
+--   number_of c       the number by which a stream says that it serves the code c
+--   first_in v        the first list of a pair v, which is both lists joined: its first 29,184 bytes
+--   second_in v       the second list: the rest, 6,144 bytes where the pair is as long as it has to be
+--   pair_bytes        the bytes of both lists: 35,328
+--   fibre_in v        the fibre code by a pair. The coax codes have no lists, and do not read v
+--   PlainPair v       a pair of which both lists change nothing
+--   EncodedBy c v ..  encode; a coax word has no delimiter
 --   CompletedBy c v .. complete
 --   TakenBy c v ..     a piece of a stream
 --   FinishedBy c v ..  a stream's finish

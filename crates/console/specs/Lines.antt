@@ -1,7 +1,7 @@
 -- How much of a slice a line word fills.
 --
---   bytes_of_line f K room   the bytes of the line word of K payload bits, but at most the room; 0 where K is above the
---                        most
+--   bytes_of_line f K room  the bytes of the line word of K payload bits, but at most the room; 0 where K is above the
+--                           most
 --
 -- Nothing here is proved.
 use Rattle.std.specs.Prelude.{cond, ℕ, min, ltb}

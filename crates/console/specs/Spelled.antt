@@ -1,13 +1,13 @@
 -- Decimal numbers in text.
 --
---   IsDigit b         the byte b is a decimal digit
---   Digits i s        the first i bytes of s are digits
---   value_of i s       the number that the first i digits of s spell
---   WithDigit v b r   the number v with the digit b after it, or why there is none
---   WithByte a b r    what is spelled with the byte b after a; what is too large stays so while digits follow
---   Spelled s r       what the text s spells: a number; none; or one of 2^64 or more
---   is_number r           r is a number
---   or_zero r          that number, or 0
+--   IsDigit b        the byte b is a decimal digit
+--   Digits i s       the first i bytes of s are digits
+--   value_of i s     the number that the first i digits of s spell
+--   WithDigit v b r  the number v with the digit b after it, or why there is none
+--   WithByte a b r   what is spelled with the byte b after a; what is too large stays so while digits follow
+--   Spelled s r      what the text s spells: a number; none; or one of 2^64 or more
+--   is_number r      r is a number
+--   or_zero r        that number, or 0
 --
 -- Nothing here is proved.
 use Rattle.std.specs.Prelude.{◌≡◌, Bool, true, false, ◌⊎◌, List, ℕ, zero, suc, ◌+◌, ◌-◌, ◌*◌, ◌^◌, ◌≤◌, ◌<◌, length, get_or}

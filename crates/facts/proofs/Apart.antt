@@ -1,9 +1,9 @@
 -- Fact 4: whether two places lie in exactly the same checks is settled by the lines of the table. Any block size, any
 -- table.
 --
---   lines_alike_law     the lines of two places that lie in the same checks are alike
---   one_line        of one line, they are one place
---   places_apart    where no line is empty and no two are alike, no two places lie in the same checks
+--   lines_alike_law  the lines of two places that lie in the same checks are alike
+--   one_line         of one line, they are one place
+--   places_apart     where no line is empty and no two are alike, no two places lie in the same checks
 use mathlib.Core.Path.{◌≡◌, sym, ap, ap₂, ◌∙◌}
 use mathlib.Core.Bool.{Bool, not}
 use Prim.Native.Nat.{ℕ, ◌+◌, ◌*◌, ◌/◌, ◌%◌, ◌<◌}

@@ -1,11 +1,11 @@
 -- The four facts for Tables 101-3 and 101-4 of source document 001: blocks of 360 or of 180, 45 or 33 lines, 16,200 or
 -- 5,940 places, 1,800 or 900 checks.
 --
---   coax_none_empty, coax_none_alike   the two computed tests over each table's lines
---   coax_sum        fact 1
---   coax_turn       fact 2
---   coax_breaks_own, coax_breaks   fact 3
---   coax_apart      fact 4
+--   coax_none_empty, coax_none_alike  the two computed tests over each table's lines
+--   coax_sum                          fact 1
+--   coax_turn                         fact 2
+--   coax_breaks_own, coax_breaks      fact 3
+--   coax_apart                        fact 4
 use lib.Dec.{T}
 use Rattle.rules.specs.Matrix.{entry}
 use Rattle.rules.specs.CoaxTables.{long_lines, short_lines}

@@ -1,10 +1,10 @@
 -- The four facts for Table 142-1: blocks of 256, 69 lines, 17,664 places, 3,072 checks.
 --
---   none_empty_law, none_alike_law   the two computed tests over the table's lines
---   fibre_sum        fact 1
---   fibre_turn       fact 2
---   fibre_breaks_own, fibre_breaks   fact 3
---   fibre_apart      fact 4
+--   none_empty_law, none_alike_law  the two computed tests over the table's lines
+--   fibre_sum                       fact 1
+--   fibre_turn                      fact 2
+--   fibre_breaks_own, fibre_breaks  fact 3
+--   fibre_apart                     fact 4
 use lib.Dec.{T}
 use Rattle.rules.specs.Matrix.{entry}
 use Rattle.rules.specs.Table.{lines, fibre}

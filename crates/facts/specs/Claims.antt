@@ -1,16 +1,16 @@
 -- W14 of paper 02: facts to teach from, each a claim on a code. A word is a full word, its places in the order of the
 -- matrix. No place is taken for shortened.
 --
---   onward z a n         the place a further on than n in its block of z: from the block's end it goes on at its start
---   all_turned c a w      the word w with all its blocks turned by a, as an entry a turns a block
---   changed p w          the word w with place p changed: 1 for 0, 0 for 1
---   SumKeeps c           the sum mod 2 of two words that satisfy all checks satisfies them too
---   TurnKeeps c          a word that satisfies all checks does so too with all its blocks turned by one and the same
---                        amount
---   ChangeBreaksOwn c    one changed place of a word that satisfies all checks breaks exactly the checks that the place
---                        is in
---   ChangeBreaks c       one changed place of such a word always breaks a check
---   PlacesApart c        no two different places lie in exactly the same checks
+--   onward z a n       the place a further on than n in its block of z: from the block's end it goes on at its start
+--   all_turned c a w   the word w with all its blocks turned by a, as an entry a turns a block
+--   changed p w        the word w with place p changed: 1 for 0, 0 for 1
+--   SumKeeps c         the sum mod 2 of two words that satisfy all checks satisfies them too
+--   TurnKeeps c        a word that satisfies all checks does so too with all its blocks turned by one and the same
+--                      amount
+--   ChangeBreaksOwn c  one changed place of a word that satisfies all checks breaks exactly the checks that the place
+--                      is in
+--   ChangeBreaks c     one changed place of such a word always breaks a check
+--   PlacesApart c      no two different places lie in exactly the same checks
 --
 -- Believe this file beside the paper; nothing here is proved. Fibre proves each claim of Table 142-1, and Coax each of
 -- Tables 101-3 and 101-4.

@@ -1,14 +1,14 @@
 -- Two computed tests over the lines of a table. The laws of proofs/ turn them into claims on all places.
 --
---   is_none a             the entry a is -1, a zero block
---   empty c j            all entries of line j are -1
---   none_empty c          no line is empty
---   paired a b f         two entries of one row: f of them where both are turns; passed where neither is, failed where
---                        one is
---   row_by_row c j k f     the entries of lines j and k, paired in each row
---   as_far z x y u v      it is as far from y to x, round a block of z, as from v to u
---   lines_alike c j k     lines j and k have turns in the same rows, and all these turns are equally far apart
---   none_alike c          no two lines are alike
+--   is_none a           the entry a is -1, a zero block
+--   empty c j           all entries of line j are -1
+--   none_empty c        no line is empty
+--   paired a b f        two entries of one row: f of them where both are turns; passed where neither is, failed where
+--                       one is
+--   row_by_row c j k f  the entries of lines j and k, paired in each row
+--   as_far z x y u v    it is as far from y to x, round a block of z, as from v to u
+--   lines_alike c j k   lines j and k have turns in the same rows, and all these turns are equally far apart
+--   none_alike c        no two lines are alike
 --
 -- Nothing here is proved.
 use Rattle.std.specs.Prelude.{Bool, true, false, not, ℕ, ◌+◌, ◌%◌, eqb, ℤ, pos, negsuc}

@@ -1,17 +1,17 @@
 -- The numbers that the C host is answered.
 --
---   number_of_cause c       cause x 2^32 + count x 2^16 + place, with cause 1 shortened, 2 check, 3 parity, 4
---                           delimiter;
---                       the count is that of failing rows, and 0 for the other causes
---   number_of_verdict v     0 for accepted
---   number_of_judgement j   the refusal's number, or the verdict's
---   JudgementFits j     its place and its count are below 2^16, as those of every word are; a refusal is 1 to 65,535
---   read_back r          the answer of a check that the number r tells, by the parts that the header names
---   Answered P r        P holds of an answer whose number is r
---   Judging P r         P holds of a check's answer whose number is r
---   HostEncoded a b ..  what birdovesta_encode promises, by the lists a and b
---   HostWord a b ..     what birdovesta_check_word promises
---   HostLine a b ..     what birdovesta_check_line promises
+--   number_of_cause c      cause x 2^32 + count x 2^16 + place, with cause 1 shortened, 2 check, 3 parity, 4
+--                          delimiter; the count is that of failing rows, and 0 for the other causes
+--   number_of_verdict v    0 for accepted
+--   number_of_judgement j  the refusal's number, or the verdict's
+--   JudgementFits j        its place and its count are below 2^16, as those of every word are; a refusal is 1 to
+--                          65,535
+--   read_back r            the answer of a check that the number r tells, by the parts that the header names
+--   Answered P r           P holds of an answer whose number is r
+--   Judging P r            P holds of a check's answer whose number is r
+--   HostEncoded a b ..     what birdovesta_encode promises, by the lists a and b
+--   HostWord a b ..        what birdovesta_check_word promises
+--   HostLine a b ..        what birdovesta_check_line promises
 --   HostCoaxEncoded k ..   what birdovesta_encode_16200 and birdovesta_encode_5940 promise, for each code k
 --   HostCoaxChecked k ..   what birdovesta_check_16200 and birdovesta_check_5940 promise
 --

@@ -1,16 +1,16 @@
 -- W9 of paper 02, 'Streams from C': what the calls of a stream promise. The host keeps a state, the bytes s, which are
 -- the stream that stream_in says; after the call they are s'.
 --
---   wrong_state s              17, the boundary's own: the state has other than 400 bytes
---   StatePiece f b p s a s'   a piece p of b bits, with the answer a: 17 comes before every other refusal. Where it is
---                             done, the stream was fed; a refusal leaves every byte as it was
---   StateFinish q f d s ..    a finish, by the order q, which writes the tail to o: where it is done, the stream is a
---                             fresh one of the same code
---   HostPiece a b ..          what birdovesta_stream_piece promises, by the lists a and b
---   HostFinish a b ..         what birdovesta_stream_finish promises
---   HostCoaxPiece k ..        what birdovesta_stream_piece_16200 and birdovesta_stream_piece_5940 promise, for each
---                             code k
---   HostCoaxFinish k ..       what birdovesta_stream_finish_16200 and birdovesta_stream_finish_5940 promise
+--   wrong_state s            17, the boundary's own: the state has other than 400 bytes
+--   StatePiece f b p s a s'  a piece p of b bits, with the answer a: 17 comes before every other refusal. Where it is
+--                            done, the stream was fed; a refusal leaves every byte as it was
+--   StateFinish q f d s ..   a finish, by the order q, which writes the tail to o: where it is done, the stream is a
+--                            fresh one of the same code
+--   HostPiece a b ..         what birdovesta_stream_piece promises, by the lists a and b
+--   HostFinish a b ..        what birdovesta_stream_finish promises
+--   HostCoaxPiece k ..       what birdovesta_stream_piece_16200 and birdovesta_stream_piece_5940 promise, for each
+--                            code k
+--   HostCoaxFinish k ..      what birdovesta_stream_finish_16200 and birdovesta_stream_finish_5940 promise
 --
 -- Believe this file beside the paper; nothing here is proved.
 use Rattle.std.specs.Prelude.{◌≡◌, List, ◌∷◌, ℕ, length}

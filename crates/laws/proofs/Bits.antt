@@ -1,29 +1,29 @@
 -- Laws of bits in bytes: a bit read, a byte stored, a part of a list, a part replaced, and the bytes that hold given
 -- bits.
 --
---   bit<                      a bit is below 2
---   bit_past                  past the end of a list every bit is 0
---   bit_digit                 bit t of byte i
+--   bit<                     a bit is below 2
+--   bit_past                 past the end of a list every bit is 0
+--   bit_digit                bit t of byte i
 --   bit_xor_law              a bit of an exclusive or is the sum mod 2
 --   bit_or_law, bit_and_law  a bit of an or is the larger one, of an and the smaller
---   bit_set, bit_set_other    a bit of a byte that was stored, and of another
---   bits_more                 bits that are those of f below byte i are so below the next, once byte i has its eight
---   bit_take, bit_drop        a bit of the first k bytes, and of all from byte a on
---   bit_front, bit_back       a bit of the first of two lists that are joined, and of the second
---   bit_part                  a bit of the k bytes from a on
---   mid a k s p               s with its k bytes from a on replaced by p
---   length_mid                it is as long as s
---   bit_mid                   it has p's bits there
---   bit_below, bit_above      and those of s below and above
---   mid_rest                  where all from a on is replaced
---   byte_zeros                a byte of zero bytes
---   bit_zeros, bit_ones       a bit of zero bytes, and of bytes of ones
---   bit_cleared               a bit of s with its first k bytes cleared, of one of these
---   numbers_same              numbers below 2 to the power n with the same n bits are equal
---   bits_same                 lists of bytes of one length with the same bits are equal
---   pack n f                  n bytes that hold the bits of f
---   length_pack, bytes_pack   they are n, and each is below 256
---   bit_pack                  their bit k is f k
+--   bit_set, bit_set_other   a bit of a byte that was stored, and of another
+--   bits_more                bits that are those of f below byte i are so below the next, once byte i has its eight
+--   bit_take, bit_drop       a bit of the first k bytes, and of all from byte a on
+--   bit_front, bit_back      a bit of the first of two lists that are joined, and of the second
+--   bit_part                 a bit of the k bytes from a on
+--   mid a k s p              s with its k bytes from a on replaced by p
+--   length_mid               it is as long as s
+--   bit_mid                  it has p's bits there
+--   bit_below, bit_above     and those of s below and above
+--   mid_rest                 where all from a on is replaced
+--   byte_zeros               a byte of zero bytes
+--   bit_zeros, bit_ones      a bit of zero bytes, and of bytes of ones
+--   bit_cleared              a bit of s with its first k bytes cleared, of one of these
+--   numbers_same             numbers below 2 to the power n with the same n bits are equal
+--   bits_same                lists of bytes of one length with the same bits are equal
+--   pack n f                 n bytes that hold the bits of f
+--   length_pack, bytes_pack  they are n, and each is below 256
+--   bit_pack                 their bit k is f k
 use mathlib.Core.Path.{◌≡◌, refl, sym, ap, ◌∙◌}
 use mathlib.Core.Bool.{Bool}
 use mathlib.Core.List.{List, [], ◌∷◌, ◌++◌, append-nil}

@@ -1,14 +1,14 @@
 -- Laws of verdicts: any two that fit are equal, and how many rows may fail. Any code, any format, but for the last two.
 --
---   lowest_same     two numbers that are each the lowest are equal
---   lowest_none     a lowest number is somewhere
---   word_same       two verdicts on one full word are equal
---   failing_lowest  where some row fails, one before which all hold, and which fails if it is a row, is the lowest
---   count_range     where a check fails, 1 row does at least, and no more than there are
---   tail_verdict_law    a verdict beside one parity is the verdict beside another with the same sent bits
---   line_same       two verdicts on one line word are equal, where its parity's bits are single
---   word_by         a verdict on a full word of the fibre code asks for the first reordering alone
---   tail_by         and one on the tail of a line word for the second alone
+--   lowest_same       two numbers that are each the lowest are equal
+--   lowest_none       a lowest number is somewhere
+--   word_same         two verdicts on one full word are equal
+--   failing_lowest    where some row fails, one before which all hold, and which fails if it is a row, is the lowest
+--   count_range       where a check fails, 1 row does at least, and no more than there are
+--   tail_verdict_law  a verdict beside one parity is the verdict beside another with the same sent bits
+--   line_same         two verdicts on one line word are equal, where its parity's bits are single
+--   word_by           a verdict on a full word of the fibre code asks for the first reordering alone
+--   tail_by           and one on the tail of a line word for the second alone
 use mathlib.Core.Path.{◌≡◌, refl, sym, ap, ◌∙◌}
 use mathlib.Core.List.{List}
 use Prim.Native.Nat.{ℕ, ◌≤◌, ◌<◌}

@@ -1,9 +1,9 @@
 -- Laws of a line word's tail: the sent parity, then the delimiter. Any format.
 --
---   tail_low, tail_high    a bit of the tail: an outgoing one of the parity p, and of the delimiter d
---   tail_bits_law              a tail is bits
---   tail_same              tails of parities with the same sent bits are the same
---   line_high              a bit of the line word, after the K bits of its payload x, is one of the tail
+--   tail_low, tail_high  a bit of the tail: an outgoing one of the parity p, and of the delimiter d
+--   tail_bits_law        a tail is bits
+--   tail_same            tails of parities with the same sent bits are the same
+--   line_high            a bit of the line word, after the K bits of its payload x, is one of the tail
 use mathlib.Core.Path.{◌≡◌, refl, ◌∙◌}
 use mathlib.Core.List.{List}
 use Prim.Native.Nat.{ℕ, ◌+◌, ◌-◌, ◌<◌}

@@ -1,23 +1,23 @@
 -- Laws of refusal orders, and of what is promised by one.
 --
---   Single P          at most one number fits P
---   told_single       an order tells one number
---   Tested o xs       each of xs is what the test of a refusal of o tells, in order, if no refusal before it applies:
---                     none, or test a rest, with what the first one tells
---   told_tested       then the first of xs that is not 0 is what the order tells
---   told_left         where none is told, the first refusal does not apply, and none of the rest is told
---   told_more         what an order tells is told where others follow it
---   told_next         where it tells none, what those that follow tell is told
---   refusal_of_law o k    when the refusal numbered k of the order o applies
---   numbers_pass f o   every number of the order o passes the test f
---   told_passes       so does the number that it tells, if 0 does
---   not_refused       where an order tells none, no refusal of it applies, wherever it stands
---   not_different     two numbers that do not differ are equal
---   done_promise      where an order tells none, and what is to be done is done, the promise is kept with Done
---   judged_checked    the same of a check that gave a verdict
---   promise_same      two outcomes by one promise, answer and later contents, are equal, if each case leaves one
---                     content
---   checked_same      two answers of a check are equal, if their verdicts are
+--   Single P            at most one number fits P
+--   told_single         an order tells one number
+--   Tested o xs         each of xs is what the test of a refusal of o tells, in order, if no refusal before it
+--                       applies: none, or test a rest, with what the first one tells
+--   told_tested         then the first of xs that is not 0 is what the order tells
+--   told_left           where none is told, the first refusal does not apply, and none of the rest is told
+--   told_more           what an order tells is told where others follow it
+--   told_next           where it tells none, what those that follow tell is told
+--   refusal_of_law o k  when the refusal numbered k of the order o applies
+--   numbers_pass f o    every number of the order o passes the test f
+--   told_passes         so does the number that it tells, if 0 does
+--   not_refused         where an order tells none, no refusal of it applies, wherever it stands
+--   not_different       two numbers that do not differ are equal
+--   done_promise        where an order tells none, and what is to be done is done, the promise is kept with Done
+--   judged_checked      the same of a check that gave a verdict
+--   promise_same        two outcomes by one promise, answer and later contents, are equal, if each case leaves one
+--                       content
+--   checked_same        two answers of a check are equal, if their verdicts are
 use mathlib.Core.Path.{◌≡◌, refl, sym, ap, subst, ◌∙◌}
 use mathlib.Core.Bool.{Bool, true, false, cond}
 use mathlib.Core.Logic.{inl, inr, ⊎_elim}

@@ -1,9 +1,9 @@
 -- How many of what was tried is right, and how many wrong, as far as a usize can count; and the worst exit status of
 -- the lines said on the way.
 --
---   none            0 right and 0 wrong
---   one_more n       n + 1, but 2^64 - 1 stays
---   counted t b s   t with one more right where b is true, else with one more wrong; its line was said with status s
+--   none           0 right and 0 wrong
+--   one_more n     n + 1, but 2^64 - 1 stays
+--   counted t b s  t with one more right where b is true, else with one more wrong; its line was said with status s
 --
 -- Nothing here is proved.
 use Rattle.std.specs.Prelude.{Bool, true, false, cond, ℕ, ◌+◌, ◌-◌, ◌^◌, max, ltb}

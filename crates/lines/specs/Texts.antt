@@ -1,13 +1,13 @@
 -- Texts, and how facts are spelled.
 --
---   text s                    the bytes of a text
---   decimal n                 the number n in decimal digits, as few as hold it; numbers here have at most 20
---   new_line                   the byte that ends a line
---   fact words n              the line of one fact, as `written 354`
---   facts words n more m      the line of two facts, as `check 176 fails 6`
---   tally n words             the line of a count, as `21 right`
---   numbered b                a byte by its number, as `<10>`
---   shown b                   a byte of a name: as it is where it is printable, from 32 to 126, else by its number
+--   text s                the bytes of a text
+--   decimal n             the number n in decimal digits, as few as hold it; numbers here have at most 20
+--   new_line              the byte that ends a line
+--   fact words n          the line of one fact, as `written 354`
+--   facts words n more m  the line of two facts, as `check 176 fails 6`
+--   tally n words         the line of a count, as `21 right`
+--   numbered b            a byte by its number, as `<10>`
+--   shown b               a byte of a name: as it is where it is printable, from 32 to 126, else by its number
 --
 -- Believe this file; nothing here is proved.
 use Rattle.std.specs.Prelude.{cond, List, [], ◌∷◌, ◌++◌, ℕ, zero, suc, ◌+◌, ◌/◌, ◌%◌, ltb}

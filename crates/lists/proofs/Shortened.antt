@@ -1,7 +1,7 @@
 -- What the functions on lists ask and promise, for a list that is a reordering, in the words of the papers.
 --
---   listed_names          each entry of a list of n places names one of them
---   shortened_lowest, shortened_nowhere    the search of the shortened places of the fibre code
+--   listed_names                         each entry of a list of n places names one of them
+--   shortened_lowest, shortened_nowhere  the search of the shortened places of the fibre code
 use mathlib.Core.Path.{sym, subst}
 use mathlib.Core.List.{List}
 use Prim.Native.Nat.{ℕ, ◌≤◌, ◌<◌}

@@ -1,11 +1,11 @@
 -- The recipes solve the parity of the coax codes: each passes the two computed tests. Nothing here rests on the block
 -- size being a power of two.
 --
---   coax_registers    how many registers they take
---   coax_ends         the first of those that hold the parity at the end
---   coax_solves      so for any checks there is one parity that has them, and only one
---   coax_coded       their steps can be written as numbers
---   coax_one         for any checks one parity has them as its own, and only one, as bytes
+--   coax_registers  how many registers they take
+--   coax_ends       the first of those that hold the parity at the end
+--   coax_solves     so for any checks there is one parity that has them, and only one
+--   coax_coded      their steps can be written as numbers
+--   coax_one        for any checks one parity has them as its own, and only one, as bytes
 use mathlib.Core.Path.{◌≡◌, refl}
 use Prim.Native.Nat.{ℕ, suc, ◌-◌, ◌^◌, ◌<◌}
 use lib.Dec.{T, lit<, lit≤}

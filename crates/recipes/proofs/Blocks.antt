@@ -1,8 +1,8 @@
 -- What checks and recipes make of registers that hold blocks of Z bits.
 --
---   seen Z e f r           what local row r sees of the block f through the entry e: bit r + e, or nothing
---   block_checks Z e m p    the checks of the first m blocks of p: row r of block row i; e i j is the entry of row i,
---                          block j
+--   seen Z e f r          what local row r sees of the block f through the entry e: bit r + e, or nothing
+--   block_checks Z e m p  the checks of the first m blocks of p: row r of block row i; e i j is the entry of row i,
+--                         block j
 --
 --   checks_near            the checks are known from the first Z bits of these blocks
 --   leading_near           so are the first blocks alone

@@ -2,13 +2,13 @@
 -- at once. B is the base of the numbers, Z the block size, M is B ^ Z - 1, and m the number of blocks, as many as the
 -- rows of checks.
 --
---   own_numbers b         the value and the count of a block itself, not turned (b holds), or of nothing
---   start_numbers m j     m registers, of which register j alone holds a block
---   goods B Z m j g      of m registers of numbers, register j is good for a block itself, and the others for nothing
---   column B Z M m F j   the machine F, given block j alone, makes block j and no other
---   backward, forward    the machines: checks and then the recipe R, the recipe and then checks; e i j is the entry of
---                        row i, block j, and the recipe leaves the blocks in the registers from o on
---   back, forth          their columns
+--   own_numbers b       the value and the count of a block itself, not turned (b holds), or of nothing
+--   start_numbers m j   m registers, of which register j alone holds a block
+--   goods B Z m j g     of m registers of numbers, register j is good for a block itself, and the others for nothing
+--   column B Z M m F j  the machine F, given block j alone, makes block j and no other
+--   backward, forward   the machines: checks and then the recipe R, the recipe and then checks; e i j is the entry of
+--                       row i, block j, and the recipe leaves the blocks in the registers from o on
+--   back, forth         their columns
 --
 --   every_join           a test of a + b columns, in two parts
 use mathlib.Core.Bool.{Bool, true, false, cond}

@@ -1,11 +1,11 @@
 -- For any checks there is one parity that has them, and only one: for any code, and any recipe that passes its computed
 -- tests.
 --
---   parity_entry c i j      the entry of block row i, parity block j
---   own_checks c p t        check t of the parity p alone, behind a payload of zeros
---   Solves c R n o B M     the recipe R solves the parity of the code c, over n registers: the first hold the checks at
---                          the start, and those from o on the parity at the end. The sizes fit, and the recipe passes
---                          its tests; these compute with the base B, and with M, which is B to the block size, less 1
+--   parity_entry c i j  the entry of block row i, parity block j
+--   own_checks c p t    check t of the parity p alone, behind a payload of zeros
+--   Solves c R n o B M  the recipe R solves the parity of the code c, over n registers: the first hold the checks at
+--                       the start, and those from o on the parity at the end. The sizes fit, and the recipe passes its
+--                       tests; these compute with the base B, and with M, which is B to the block size, less 1
 --
 --   check_blocks           the own checks of a parity are the checks of its blocks
 --   parity_single          two parities that have the same own checks are the same

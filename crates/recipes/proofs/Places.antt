@@ -3,9 +3,9 @@
 --   AreBits b p       the first b places of p are bits: below 2
 --   bits Z p          the run of bits p as blocks of Z bits
 --
---   as_bit_sum_law         the sum of two bits mod 2
---   runs_same         runs are the same where their blocks are
---   bits_as_bit_law        a run that has the bits of given blocks
+--   as_bit_sum_law   the sum of two bits mod 2
+--   runs_same        runs are the same where their blocks are
+--   bits_as_bit_law  a run that has the bits of given blocks
 use mathlib.Core.Path.{◌≡◌, refl, sym, ap, ap₂, ◌∙◌}
 use mathlib.Core.Bool.{Bool, true, false}
 use Prim.Native.Nat.{ℕ, ◌+◌, ◌*◌, ◌/◌, ◌%◌, ◌<◌}

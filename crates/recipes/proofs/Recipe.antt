@@ -1,15 +1,15 @@
 -- A recipe: steps that add one register, turned, to another. A register is a block of Z bits, for any Z.
 --
---   Blocks            blocks of bits: bit r of block k
---   leading m x       the first m blocks of x, and nothing after them
---   Near Z n x y      x and y are the same in the first Z bits of the first n blocks
---   Step, add d s a   a step: register d becomes register d plus register s turned by a
---   step Z c x        the registers x after the step c
---   follow Z cs x     the registers x after the steps cs
---   Group, group d s ts    a group of steps: they add register s to register d, one for each turn in ts
---   steps d s ts      the steps of a group
---   flat gs           the steps of the groups gs, in order
---   sound n g         the group g stays within n registers, and adds none to itself
+--   Blocks               blocks of bits: bit r of block k
+--   leading m x          the first m blocks of x, and nothing after them
+--   Near Z n x y         x and y are the same in the first Z bits of the first n blocks
+--   Step, add d s a      a step: register d becomes register d plus register s turned by a
+--   step Z c x           the registers x after the step c
+--   follow Z cs x        the registers x after the steps cs
+--   Group, group d s ts  a group of steps: they add register s to register d, one for each turn in ts
+--   steps d s ts         the steps of a group
+--   flat gs              the steps of the groups gs, in order
+--   sound n g            the group g stays within n registers, and adds none to itself
 --
 --   sound_apart       the two registers of a sound group are not the same
 --   follow_append     the registers after steps and then more steps

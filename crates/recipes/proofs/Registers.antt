@@ -2,23 +2,23 @@
 -- followed on blocks of bits, on lists of turns, and on numbers; and a relation between two kinds that adding keeps, a
 -- recipe keeps too.
 --
---   Kind                what a register holds: a type, none of it, and plus x y ts: x, and y turned by each of ts
---   at K g k            register k of the list g; a register past its end holds none
---   firsts m x          the list of x 0 to x (m - 1)
---   enter K e x y       x plus y as the entry e turns it
---   checked K e n g i   check row i of the first n registers of g: e i j is the entry of row i for register j
---   put K g d x         the registers g with x in register d
---   listed K gs g       the registers g after the groups gs
---   Machine             what makes registers of registers, for each kind
---   to_checks e m        the machine that makes the m rows of checks
---   to_blocks gs o       the machine that follows the groups gs, and hands on the registers from o
---   Alike K L S         S is a relation between what registers of two kinds hold, and plus keeps it
---   Like K L S g h      the registers g and h are so related, one by one
---   Uniform F           the machine F keeps every such relation
+--   Kind               what a register holds: a type, none of it, and plus x y ts: x, and y turned by each of ts
+--   at K g k           register k of the list g; a register past its end holds none
+--   firsts m x         the list of x 0 to x (m - 1)
+--   enter K e x y      x plus y as the entry e turns it
+--   checked K e n g i  check row i of the first n registers of g: e i j is the entry of row i for register j
+--   put K g d x        the registers g with x in register d
+--   listed K gs g      the registers g after the groups gs
+--   Machine            what makes registers of registers, for each kind
+--   to_checks e m      the machine that makes the m rows of checks
+--   to_blocks gs o     the machine that follows the groups gs, and hands on the registers from o
+--   Alike K L S        S is a relation between what registers of two kinds hold, and plus keeps it
+--   Like K L S g h     the registers g and h are so related, one by one
+--   Uniform F          the machine F keeps every such relation
 --
---   put_at, firsts_at   each register of these lists
---   firsts_alike        lists of things that are related
---   to_checks_uniform_law, to_blocks_uniform_law   checks and recipes are uniform
+--   put_at, firsts_at                             each register of these lists
+--   firsts_alike                                  lists of things that are related
+--   to_checks_uniform_law, to_blocks_uniform_law  checks and recipes are uniform
 use mathlib.Core.Path.{◌≡◌, refl}
 use mathlib.Core.Bool.{Bool, true, false, cond}
 use mathlib.Core.List.{List, [], ◌∷◌}

@@ -1,15 +1,15 @@
 -- Sums of bits mod 2.
 --
---   a ⊕ b           the sum of two bits
---   sums n f        f 0 ⊕ f 1 ⊕ .. ⊕ f (n - 1)
---   sum_of f ts      the sum of f over the list ts
+--   a ⊕ b        the sum of two bits
+--   sums n f     f 0 ⊕ f 1 ⊕ .. ⊕ f (n - 1)
+--   sum_of f ts  the sum of f over the list ts
 --
---   xor_none, xor_twice    false added; a bit added twice
---   xor_assoc, xor_swap    sums regrouped
---   sums_same       what is the same below n has the same sums
---   sums_none       a sum of nothing
---   sums_plus       the sum of two sums
---   sums_one        a sum that has one term only
+--   xor_none, xor_twice  false added; a bit added twice
+--   xor_assoc, xor_swap  sums regrouped
+--   sums_same            what is the same below n has the same sums
+--   sums_none            a sum of nothing
+--   sums_plus            the sum of two sums
+--   sums_one             a sum that has one term only
 --   sum_of_append_law    the sum over a list and another
 --   sum_of_sums_law      a sum of sums, added up the other way
 use mathlib.Core.Path.{◌≡◌, refl, sym, ap, ap₂, ◌∙◌}

@@ -1,13 +1,13 @@
 -- Lists of turns: what a recipe or a check makes of many blocks is, for each block, a list of turns; the block is
 -- turned by each of them, and all is added up.
 --
---   turned_by Z ts f     the block f turned by each of ts, added up
---   later a ts          each turn of ts, and a more
---   product ts us       each turn of us after each of ts
---   block_kind Z         the kind of registers that hold a block of Z bits
---   rows                the kind of registers that hold a list of turns for each of many blocks
---   spread Z m p x      the first m blocks of p, block j turned by x j, added up
---   Spread Z m p x f    the block f is that sum
+--   turned_by Z ts f  the block f turned by each of ts, added up
+--   later a ts        each turn of ts, and a more
+--   product ts us     each turn of us after each of ts
+--   block_kind Z      the kind of registers that hold a block of Z bits
+--   rows              the kind of registers that hold a list of turns for each of many blocks
+--   spread Z m p x    the first m blocks of p, block j turned by x j, added up
+--   Spread Z m p x f  the block f is that sum
 --
 --   spread_alike        what recipes and checks make of rows stands for what they make of blocks
 use mathlib.Core.Path.{◌≡◌, refl, sym, ap, ap₂, ◌∙◌}

@@ -1,12 +1,12 @@
 -- A recipe as the code follows it: registers of z bits, one after another, and a step as one number with three parts.
 -- For the contracts of inner functions: no public promise cites this file.
 --
---   target e, source e, turn e   the parts of the step e: in hexadecimal 0x18_02_c6 is target 18, source 02, turn c6;
---                        of a longer turn the digits above its last two stand before all others
---   stepped z e x        the registers' bits x after the step e: the source, turned, is added to the target
---   followed z es x      after the steps es, one after another
---   StepFits z b e       the target and the source end at or before bit b, and the turn is below z
---   Followed z es s t    the bits of t are those of s after the steps es
+--   target e, source e, turn e  the parts of the step e: in hexadecimal 0x18_02_c6 is target 18, source 02, turn c6;
+--                               of a longer turn the digits above its last two stand before all others
+--   stepped z e x               the registers' bits x after the step e: the source, turned, is added to the target
+--   followed z es x             after the steps es, one after another
+--   StepFits z b e              the target and the source end at or before bit b, and the turn is below z
+--   Followed z es s t           the bits of t are those of s after the steps es
 --
 -- Nothing here is proved.
 use Rattle.std.specs.Prelude.{◌≡◌, List, [], ◌∷◌, ℕ, ◌+◌, ◌*◌, ◌/◌, ◌%◌, ◌≤◌, ◌<◌, length}

@@ -1,17 +1,17 @@
 -- Laws of a check, over any block size and table.
 --
---   block_of, local_of   the block and the local column of place z * j + t
---   place_below      it is a place of the first m blocks, where j is below m
---   block_some       where the first m blocks have a place, a block has one
---   block_below      the block of such a place is below m
---   check_columns    a check is the sum mod 2 of its terms, one for each block column
---   check_below      a check is 0 or 1
---   check_same       equal words have equal checks
---   check_zeros      every check of the word of zeros is 0
---   check_sum        the checks of a sum are the sums of the checks
---   one_below        a number of the matrix is 0 or 1
---   only_at, only_elsewhere   the word with a 1 at place p alone: 1 there, 0 elsewhere
---   check_only       its check n is row n, place p of the matrix
+--   block_of, local_of       the block and the local column of place z * j + t
+--   place_below              it is a place of the first m blocks, where j is below m
+--   block_some               where the first m blocks have a place, a block has one
+--   block_below              the block of such a place is below m
+--   check_columns            a check is the sum mod 2 of its terms, one for each block column
+--   check_below              a check is 0 or 1
+--   check_same               equal words have equal checks
+--   check_zeros              every check of the word of zeros is 0
+--   check_sum                the checks of a sum are the sums of the checks
+--   one_below                a number of the matrix is 0 or 1
+--   only_at, only_elsewhere  the word with a 1 at place p alone: 1 there, 0 elsewhere
+--   check_only               its check n is row n, place p of the matrix
 use mathlib.Core.Path.{◌≡◌, refl, sym, ap, ◌∙◌}
 use mathlib.Core.Bool.{cond}
 use Prim.Native.Nat.{ℕ, zero, suc, ◌+◌, ◌*◌, ◌/◌, ◌%◌, ◌<◌}

@@ -1,14 +1,14 @@
 -- The facts of Tables 101-3 and 101-4 of source document 001, by one computed test over the whole of each; and the
 -- numbers of the coax codes.
 --
---   coax_facts     Table 101-3: 45 lines of 5 entries, 225 in all, each from -1 to 359; 169 are not -1, of which 9 are
---                  in lines 41 to 45. Table 101-4: 33 lines of 5, 165 in all, from -1 to 179; 131 are not -1, of which
---                  9 are in lines 29 to 33
---   coax_fits      so both pass the test of a table
---   coax_lines_law     a table has as many lines as there are block columns
---   Numbers k      what the code k's numbers have in common; coax_numbers shows it
---   coax_places    they are the source document's: 16,200 or 5,940 places, 14,400 or 5,040 of payload, 1,800 or 900
---                  checks
+--   coax_facts      Table 101-3: 45 lines of 5 entries, 225 in all, each from -1 to 359; 169 are not -1, of which 9
+--                   are in lines 41 to 45. Table 101-4: 33 lines of 5, 165 in all, from -1 to 179; 131 are not -1, of
+--                   which 9 are in lines 29 to 33
+--   coax_fits       so both pass the test of a table
+--   coax_lines_law  a table has as many lines as there are block columns
+--   Numbers k       what the code k's numbers have in common; coax_numbers shows it
+--   coax_places     they are the source document's: 16,200 or 5,940 places, 14,400 or 5,040 of payload, 1,800 or 900
+--                   checks
 use mathlib.Core.Path.{◌≡◌, refl}
 use mathlib.Core.Bool.{Bool}
 use Prim.Native.Nat.{◌+◌, ◌*◌, ◌/◌, ◌≤◌, ◌<◌}

@@ -1,17 +1,17 @@
 -- Laws of computed tests: a test of two parts, of every element of a list, of every number below a bound, and a test
 -- as a number.
 --
---   both a b        a and b
---   all f xs        f of every element of xs
---   every n f       f of every number below n
---   X-left, -right  a part of a test that passes, passes
---   all_at, all_in, every_at   what passes for all, passes for each
---   every_of        what passes for each number below n, passes for every one
---   some_not        where not every number below n passes, one of them fails
---   as_bit b         the test b as a number: 1 where it passes, 0 where it fails
---   as_bit_below_law     it is below 2
---   as_bit_told_law      and tells the test
---   as_bit_bit_law       a number below 2 is told by whether it is 1
+--   both a b                  a and b
+--   all f xs                  f of every element of xs
+--   every n f                 f of every number below n
+--   X-left, -right            a part of a test that passes, passes
+--   all_at, all_in, every_at  what passes for all, passes for each
+--   every_of                  what passes for each number below n, passes for every one
+--   some_not                  where not every number below n passes, one of them fails
+--   as_bit b                  the test b as a number: 1 where it passes, 0 where it fails
+--   as_bit_below_law          it is below 2
+--   as_bit_told_law           and tells the test
+--   as_bit_bit_law            a number below 2 is told by whether it is 1
 use mathlib.Core.Path.{◌≡◌, refl}
 use mathlib.Core.Bool.{Bool, true, false, not, cond}
 use mathlib.Core.Logic.{◌⊎◌, inl, inr, ⊎_elim}

@@ -1,20 +1,19 @@
 -- W8 and W9 of paper 02: the two coax codes, by Tables 101-3 and 101-4 of source document 001. Nothing is shortened and
 -- nothing punctured, there are no lists and no delimiter, and a payload fills the payload places.
 --
---   coax_code k               the code k: blocks of 360 or of 180, five block rows, 45 or 33 block columns
---                            (coax_size, coax_columns), and its table's lines (coax_lines)
---   coax_format k             its format: number 2 or 3 (coax_number); payloads of exactly the payload places,
---                             14,400 or
---                            5,040; all parity is sent
+--   coax_code k                the code k: blocks of 360 or of 180, five block rows, 45 or 33 block columns
+--                              (coax_size, coax_columns), and its table's lines (coax_lines)
+--   coax_format k              its format: number 2 or 3 (coax_number); payloads of exactly the payload places, 14,400
+--                              or 5,040; all parity is sent
 --   coax_encode_order f K u m  the order of encode, to m bytes
 --   coax_word_order f K w      of complete and of the check
 --   coax_finish_order f t m    of a stream's finish, to m bytes; that of a piece is piece_order
---   Counted f K              K is from the least to the most; of a coax code these are one number
---   Coax..Asks               the same orders read the other way round: what each operation asks; a piece, PieceAsks
---   CoaxEncoded k ..         encode: the word is the payload, then all of its parity
---   CoaxCompleted k ..       complete
---   CoaxChecked k ..         check
---   CoaxFinished k ..        a stream's finish: it writes the parity alone; of a piece, PieceTaken says it
+--   Counted f K                K is from the least to the most; of a coax code these are one number
+--   Coax..Asks                 the same orders read the other way round: what each operation asks; a piece, PieceAsks
+--   CoaxEncoded k ..           encode: the word is the payload, then all of its parity
+--   CoaxCompleted k ..         complete
+--   CoaxChecked k ..           check
+--   CoaxFinished k ..          a stream's finish: it writes the parity alone; of a piece, PieceTaken says it
 --
 -- Believe this file beside the paper; nothing here is proved.
 use Rattle.std.specs.Prelude.{◌≡◌, List, [], ◌∷◌, ◌++◌, ℕ, ◌≤◌, ℤ, length}

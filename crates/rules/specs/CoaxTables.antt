@@ -1,9 +1,9 @@
 -- Source document 001, Tables 101-3 and 101-4, as printed: each in three parts, which stand side by side. A part has a
 -- line for each row, 1 to 5, and in it an entry for each of its columns. `to a` is the entry a, and `none` is -1.
 --
---   aside n rs    the first n columns of the rows rs, a line for each
---   long_lines     Table 101-3, of the code (16200, 14400): 45 columns
---   short_lines    Table 101-4, of the code (5940, 5040): 33 columns
+--   aside n rs   the first n columns of the rows rs, a line for each
+--   long_lines   Table 101-3, of the code (16200, 14400): 45 columns
+--   short_lines  Table 101-4, of the code (5940, 5040): 33 columns
 --
 -- Believe this file beside the document. CoaxLaws proves the ranges and the counts.
 use Rattle.std.specs.Prelude.{List, [], ◌∷◌, ◌++◌, map, ℕ, zero, suc, ℤ, pos as to, negsuc, get_or, drop}

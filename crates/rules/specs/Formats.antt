@@ -11,13 +11,13 @@
 --     data_block         the bits of a data block; a payload is whole data blocks
 --     sent              the outgoing parity bits that are sent, the first ones; the others are punctured
 --     delimiter         the delimiter's bits
---   delimiter_most f   the largest delimiter
---   fibre_by r s v     the fibre code, with first r, second s and lists v: number 1; 1 to 14,392 payload bits, in data
+--   delimiter_most f  the largest delimiter
+--   fibre_by r s v    the fibre code, with first r, second s and lists v: number 1; 1 to 14,392 payload bits, in data
 --                     blocks of 257; 2,560 of its 3,072 outgoing parity bits are sent, and the last 512 punctured; a
 --                     delimiter of 10 bits, a number 0 to 1,023
---   fibre_format a b   the fibre code by two lists that are lent: the first a, of its payload places, and the second b,
+--   fibre_format a b  the fibre code by two lists that are lent: the first a, of its payload places, and the second b,
 --                     of its parity places
---   fibre_kept         the fibre code as paper 01 has it: both interleavers keep the order of the bits
+--   fibre_kept        the fibre code as paper 01 has it: both interleavers keep the order of the bits
 --
 -- Believe this file beside the paper; nothing here is proved.
 use Rattle.std.specs.Prelude.{List, ℕ, ◌-◌, ◌^◌}

@@ -6,7 +6,7 @@
 --   Right f l       what the lesson l claims of the code, by the definitions
 --   AllRight f ls   the single claim: each lesson of a list is right
 --   lessons         the ten, of the fibre code
---   coax_lessons k   those of the coax code k: its first place, its last one, its first parity place, and two words
+--   coax_lessons k  those of the coax code k: its first place, its last one, its first parity place, and two words
 --
 -- Believe this file beside the paper. LessonLaws proves AllRight of each.
 use Rattle.std.specs.Prelude.{◌≡◌, List, [], ◌∷◌, ℕ}

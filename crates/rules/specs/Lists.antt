@@ -1,12 +1,12 @@
 -- W2 of paper 02: what a reordering of places is, and what a lent list says. A list is bytes, two for an entry, the low
 -- byte first, here as at the C boundary.
 --
---   Reordering n r    r reorders n places: what it names for 0 to n - 1 is each of the n places, once
---   entry_of l t       entry t of the list l
---   Listed n l        l is a list of n entries, and these are a reordering of n places
---   place_in n l t     the place that a list l of n entries names at t; it says nothing of places from n on, which stay
---   Plain n l         l changes nothing: it has n entries, and entry t is t
---   Lists             the lists that a call is lent:
+--   Reordering n r  r reorders n places: what it names for 0 to n - 1 is each of the n places, once
+--   entry_of l t    entry t of the list l
+--   Listed n l      l is a list of n entries, and these are a reordering of n places
+--   place_in n l t  the place that a list l of n entries names at t; it says nothing of places from n on, which stay
+--   Plain n l       l changes nothing: it has n entries, and entry t is t
+--   Lists           the lists that a call is lent:
 --     none              none
 --     pair a b          the first a, and the second b
 --   AreListed n m v   where two are lent, the first is a reordering of n places, and the second of m

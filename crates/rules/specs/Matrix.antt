@@ -1,18 +1,18 @@
 -- Paper 01, 'The matrix': what an entry stands for, what a check is, and which checks a place lies in. Any block size,
 -- any table.
 --
---   Code              a block size, block rows, block columns, and a table: a line for each block column, an entry for
---                     each block row
---   places c          the places of a full word
---   checks c          the checks, and as many parity places, which come last
---   places_of_payload c   the places before them
---   entry c i j       the entry of block row i, block column j, both from 0; -1 is a zero block
---   block z a r t     local row r, local column t of the block of entry a: the identity moved right by a
---   one c n p         row n, place p of the matrix: 1 or 0
---   total n f         f 0 + f 1 + .. + f (n - 1)
---   check c n w       check n of the word w: the sum mod 2 of all places with a one in that row
---   AllHold c w       every check of w is 0
---   checks_of c p      the checks that place p is in, lowest first
+--   Code                 a block size, block rows, block columns, and a table: a line for each block column, an entry
+--                        for each block row
+--   places c             the places of a full word
+--   checks c             the checks, and as many parity places, which come last
+--   places_of_payload c  the places before them
+--   entry c i j          the entry of block row i, block column j, both from 0; -1 is a zero block
+--   block z a r t        local row r, local column t of the block of entry a: the identity moved right by a
+--   one c n p            row n, place p of the matrix: 1 or 0
+--   total n f            f 0 + f 1 + .. + f (n - 1)
+--   check c n w          check n of the word w: the sum mod 2 of all places with a one in that row
+--   AllHold c w          every check of w is 0
+--   checks_of c p        the checks that place p is in, lowest first
 --
 -- Believe this file beside the paper; nothing here is proved.
 use Rattle.std.specs.Prelude.{◌≡◌, cond, List, [], ◌∷◌, ◌++◌, ℕ, zero, suc, ◌+◌, ◌-◌, ◌*◌, ◌/◌}

@@ -1,14 +1,14 @@
 -- What each public operation promises: its answer and the later contents of all that it was lent, for every input.
 -- A refusal leaves everything as it was.
 --
---   refusal_of a               the refusal's number of an answer, 0 for none
---   refusal_in j               the same of a check's answer
+--   refusal_of a              the refusal's number of an answer, 0 for none
+--   refusal_in j              the same of a check's answer
 --   by a A B                  A where the answer a is Done, B where it is a refusal
 --   judged P j                P of the verdict that j gives
 --   Promise o a A B           the answer a is by the order o; A holds where it is Done, B where it is a refusal
 --   Checked o P j             the same of a check: P holds of its verdict
---   Completion c w w'         the parity's bytes of w' are the parity of the payload places of w; those before are w's.
---                             For codes whose payload places fill whole bytes
+--   Completion c w w'         the parity's bytes of w' are the parity of the payload places of w; those before are
+--                             w's. For codes whose payload places fill whole bytes
 --   LineWritten f K u d o o'  o' begins with the line word of u
 --   TailWritten f s d o o'    o' begins with the tail of the parity whose own checks are the bits of s
 --   Completed f K w a w'      complete

@@ -1,10 +1,10 @@
 -- Paper 01, 'Refusal numbers', and W2, W4 and W9 of paper 02: when each is given, and the order of each operation. 0
 -- stands for no refusal. A code's format has the limits.
 --
---   Refusal      its number, and when it applies
---   refusal k A  the refusal numbered k, which applies where A holds
---   tells o r    r is the number of the first refusal of the order o that applies, or 0 where none does
---   BadList n l  the list l has another length than n entries take, or these are no reordering of n places
+--   Refusal       its number, and when it applies
+--   refusal k A   the refusal numbered k, which applies where A holds
+--   tells o r     r is the number of the first refusal of the order o that applies, or 0 where none does
+--   BadList n l   the list l has another length than n entries take, or these are no reordering of n places
 --   of_lists f    the refusal of the lists that are lent, 16; where none are, none
 --   of_count f K  the refusals of a payload's count: 1, 10
 --   of_stream f t the refusals of a stream's state: 12, 7

@@ -7,10 +7,10 @@
 --   spot z a f r    what the block of entry a takes at local row r from its column's bits f
 --   through z l f n what a line l of the table adds to check n, from its column's bits f
 --   term c n w j    what block column j adds to check n of w
---   first_of xs      the first of the numbers xs that is not 0, or 0 where all are
+--   first_of xs     the first of the numbers xs that is not 0, or 0 where all are
 --   FirstTold xs r  r is that one
---   by_first a       the fibre code where the payload goes in by the list a; what does not ask for the parity's order
---   by_second b      and where the parity goes out by the list b; what does not ask for the payload's order
+--   by_first a      the fibre code where the payload goes in by the list a; what does not ask for the parity's order
+--   by_second b     and where the parity goes out by the list b; what does not ask for the payload's order
 --   limits f        what a code asks of a stream, as the numbers that a test is given
 use Rattle.std.specs.Prelude.{◌≡◌, Bool, cond, List, [], ◌∷◌, ℕ, ◌+◌, ◌*◌, ◌/◌, ◌%◌, T}
 use Rattle.std.specs.Prelude.{ltb, eqb, ℤ, pos, negsuc, get_or}

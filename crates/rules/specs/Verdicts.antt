@@ -1,15 +1,15 @@
 -- Paper 01, 'Verdicts', with W2 and W3 of paper 02: what each verdict says of a full word, which is in inner order, and
 -- of a line word.
 --
---   Lowest P n               P holds of n and of nothing below it
---   Nowhere P                P holds of no number
---   ShortenedSet f K w n     n is a shortened place, an inner payload place taken from a padded one from K on, and is 1
---   Fails c w n              check n of w fails
---   row_fails c w n           the test of row n of w: passed where its check is 1
---   how_many b f              how many numbers below b pass the test f
---   WordVerdict f K w v      v is the verdict on the full word w
---   Differs x y b n          n is below b, and x and y differ there
---   ParityDiffers f K l p    where the sent parity of l differs from the encoder's, which is p before it goes out
+--   Lowest P n             P holds of n and of nothing below it
+--   Nowhere P              P holds of no number
+--   ShortenedSet f K w n   n is a shortened place, an inner payload place taken from a padded one from K on, and is 1
+--   Fails c w n            check n of w fails
+--   row_fails c w n        the test of row n of w: passed where its check is 1
+--   how_many b f           how many numbers below b pass the test f
+--   WordVerdict f K w v    v is the verdict on the full word w
+--   Differs x y b n        n is below b, and x and y differ there
+--   ParityDiffers f K l p  where the sent parity of l differs from the encoder's, which is p before it goes out
 --   DelimiterDiffers f K l d where the delimiter of l differs from d
 --   TailVerdict f K l d p v  v is the verdict on the tail of l, beside the parity p first, then the delimiter d
 --   LineVerdict f K l d v    v is the verdict on the line word l: its tail beside the encoder's

@@ -1,17 +1,17 @@
 -- Paper 01, 'From payload to line word', and W2 of paper 02: the full word of a payload, in inner order, the parity
 -- that makes all its checks hold, and the line word.
 --
---   padded K u          step 1: K bits of u, then zeros
---   reordered f x       step 2: inner place t is taken from place first t of x
+--   padded K u           step 1: K bits of u, then zeros
+--   reordered f x        step 2: inner place t is taken from place first t of x
 --   full_word c x p      the inner payload places x, then the inner parity p, as bytes
---   Parity c x p        step 3: p, the bytes of its bits alone, makes every check of the full word 0
---   OwnChecks c s p     p, such bytes too, is the parity whose own checks are the bits of s
---   outgoing f p        step 2 of the parity: outgoing parity bit t is inner parity bit second t
---   tail f p d          the sent ones of these, then the delimiter d, lowest bit first
+--   Parity c x p         step 3: p, the bytes of its bits alone, makes every check of the full word 0
+--   OwnChecks c s p      p, such bytes too, is the parity whose own checks are the bits of s
+--   outgoing f p         step 2 of the parity: outgoing parity bit t is inner parity bit second t
+--   tail f p d           the sent ones of these, then the delimiter d, lowest bit first
 --   line_word f K u p d  step 4: K bits of u, then the tail
 --   tail_bits f          the tail's length
 --   line_bits f K        the line word's length
---   digit d n           bit n of the number d
+--   digit d n            bit n of the number d
 --
 -- Believe this file beside the paper; nothing here is proved.
 use Rattle.std.specs.Prelude.{◌≡◌, List, ℕ, ◌+◌, ◌/◌, ◌%◌, ◌^◌, ◌<◌}

@@ -1,10 +1,11 @@
 -- What the coax codes' numbers say to the running checks, for either code.
 --
---   coax_lined       a coax code is that of its table's lines
---   Ready k s w a e  what adding the blocks of w from a on and below e to s asks, by the code's numbers
---   lines_ready      so a copy of the code's table may be handed on
---   lines_added      and what it adds is what the code's checks are
---   piece_first, piece_last, piece_within, piece_less   the blocks that the places from h on and below e touch
+--   coax_lined                                         a coax code is that of its table's lines
+--   Ready k s w a e                                    what adding the blocks of w from a on and below e to s asks, by
+--                                                      the code's numbers
+--   lines_ready                                        so a copy of the code's table may be handed on
+--   lines_added                                        and what it adds is what the code's checks are
+--   piece_first, piece_last, piece_within, piece_less  the blocks that the places from h on and below e touch
 use mathlib.Core.Path.{◌≡◌, sym, ap, subst}
 use mathlib.Core.List.{List}
 use Prim.Native.Nat.{ℕ, ◌+◌, ◌-◌, ◌*◌, ◌/◌, ◌^◌, ◌≤◌, ◌<◌}

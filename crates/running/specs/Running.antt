@@ -3,7 +3,7 @@
 --   HasBlocks z m s    the bytes s have m blocks, and a usize counts their places
 --   lined z t          the code of blocks of z bits whose table has the lines t, of five entries each
 --   Lines z t          each line has five entries, which pass their test
---   blocks_of z w a e   the blocks of the bytes w from block a on and below block e, at their places, and 0 elsewhere
+--   blocks_of z w a e  the blocks of the bytes w from block a on and below block e, at their places, and 0 elsewhere
 --
 -- Nothing here is proved.
 use Rattle.std.specs.Prelude.{◌≡◌, List, [], ℕ, ◌+◌, ◌-◌, ◌*◌, ◌^◌, ◌≤◌, ◌<◌, ℤ, length, get_or}

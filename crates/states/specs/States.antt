@@ -1,9 +1,9 @@
 -- W9 of paper 02, 'Streams from C': which stream 400 bytes are.
 --
---   low_first s      the number that the bytes s are, low byte first
---   state_bytes      400: the bytes of a stream's state
---   stream_in s      the stream that the state s is: bytes 0 to 7 are its code's number, bytes 8 to 15 the bits held,
---                   each low byte first, and the 384 bytes from there on the running checks
+--   low_first s  the number that the bytes s are, low byte first
+--   state_bytes  400: the bytes of a stream's state
+--   stream_in s  the stream that the state s is: bytes 0 to 7 are its code's number, bytes 8 to 15 the bits held, each
+--                low byte first, and the 384 bytes from there on the running checks
 --
 -- Believe this file beside the paper. The law state_single says that no two states are one stream.
 use Rattle.std.specs.Prelude.{List, [], ◌∷◌, ℕ, ◌+◌, ◌*◌, take, drop}

@@ -1,10 +1,11 @@
 -- Demand 1, in plain words: each operation is done, or gives a verdict, exactly where its inputs are what it asks. Any
 -- format.
 --
---   packed_free, counted_free, stream_free    the refusals of bytes, of a count's limits and of a stream's state do not
---                apply
---   X-free       where the inputs are what operation X asks, no refusal of its order applies
---   X-exactly    X is done, or gives a verdict, exactly then
+--   packed_free, counted_free, stream_free  the refusals of bytes, of a count's limits and of a stream's state do not
+--                                           apply
+--   X-free                                  where the inputs are what operation X asks, no refusal of its order
+--                                           applies
+--   X-exactly                               X is done, or gives a verdict, exactly then
 use mathlib.Core.Path.{◌≡◌, ap}
 use mathlib.Core.Logic.{⊎_elim}
 use mathlib.Core.List.{List, ◌++◌}

@@ -2,16 +2,25 @@
 -- operation is done, or gives a verdict, exactly where its inputs are what it asks, and a refusal changes nothing. Over
 -- either code; where a parity comes in, it is asked that the code has one, and one only, for all checks.
 --
---   coax_sized     the sizes of a coax code's format go together
---   coax_encoded, coax_finished    the refusals that any format has besides never apply to a coax code; so what encode
---                  and the finish promise is what they promise of any format, with the delimiter 0 of 0 bits
---   coax_finish_told    what the finish's order tells, that of any format tells
---   coax_encode_same, coax_complete_same, coax_check_same, coax_finish_same    two outcomes are equal
---   coax_encode_exactly, coax_complete_exactly, coax_check_exactly, coax_finish_exactly    done, or a verdict, exactly
---                  where the inputs are what is asked
+--   coax_sized                                                                           the sizes of a coax code's
+--                                                                                        format go together
+--   coax_encoded, coax_finished                                                          the refusals that any format
+--                                                                                        has besides never apply to a
+--                                                                                        coax code; so what encode and
+--                                                                                        the finish promise is what
+--                                                                                        they promise of any format,
+--                                                                                        with the delimiter 0 of 0
+--                                                                                        bits
+--   coax_finish_told                                                                     what the finish's order
+--                                                                                        tells, that of any format
+--                                                                                        tells
+--   coax_encode_same, coax_complete_same, coax_check_same, coax_finish_same              two outcomes are equal
+--   coax_encode_exactly, coax_complete_exactly, coax_check_exactly, coax_finish_exactly  done, or a verdict, exactly
+--                                                                                        where the inputs are what is
+--                                                                                        asked
 --   coax_word_free where a word is what complete and the check ask, no refusal of their order applies
---   coax_encode_kept, coax_complete_kept, coax_finish_kept    where an operation is not done, every byte and every
---                  stream is as it was
+--   coax_encode_kept, coax_complete_kept, coax_finish_kept  where an operation is not done, every byte and every
+--                                                           stream is as it was
 --
 -- A piece of a coax code is one of its format: piece_same, piece_exactly and piece_kept, at coax_format k, say it.
 use mathlib.Core.Path.{◌≡◌, refl, ap}

@@ -1,11 +1,12 @@
 -- The C boundary of the coax codes, over either code: the same as Host says of the fibre code's calls.
 --
---   host_coax_encode_same, host_coax_check_same    two outcomes of one call are equal
---   host_coax_encode_zero       0 exactly when written
---   host_coax_encode_refused    any other number is a refusal, 1 to 65,535, and every byte is as it was
---   host_coax_check_zero        0 exactly when accepted, in the words of demand 2
---   host_coax_check_refused     a number from 1 to 65,535 exactly when it is the refusal
---   host_coax_check_read        what is read back from the number is the check's answer
+--   host_coax_encode_same, host_coax_check_same  two outcomes of one call are equal
+--   host_coax_encode_zero                        0 exactly when written
+--   host_coax_encode_refused                     any other number is a refusal, 1 to 65,535, and every byte is as it
+--                                                was
+--   host_coax_check_zero                         0 exactly when accepted, in the words of demand 2
+--   host_coax_check_refused                      a number from 1 to 65,535 exactly when it is the refusal
+--   host_coax_check_read                         what is read back from the number is the check's answer
 use mathlib.Core.Path.{◌≡◌, sym, ap, ◌∙◌}
 use mathlib.Core.List.{List}
 use Prim.Native.Nat.{ℕ, ◌^◌, ◌<◌}

@@ -2,15 +2,15 @@
 -- complete agree with it. Over either code. A word is the payload and all of its parity: a full word and a line word
 -- at once.
 --
---   coax_accepted             a word is accepted exactly when its unused bits are 0 and every check holds
---   coax_verdicts             a word that is not accepted is rejected for a check: no other cause is ever named
---   coax_check_named          the row that is named is the first that fails, with how many do
---   coax_complete_then_check  what complete leaves, the check with the same count accepts
---   coax_good_line, coax_line_good    the words that are accepted are just the good line words of the code's format,
---                             with the delimiter 0 of 0 bits
---   coax_encode_then_check    what encode writes, the check with the same count accepts
---   coax_encode_exact         what encode writes is the payload, then whatever parity makes every check hold
---   coax_accepted_is_encoded  a word that is accepted is the one that encode writes for its payload
+--   coax_accepted                   a word is accepted exactly when its unused bits are 0 and every check holds
+--   coax_verdicts                   a word that is not accepted is rejected for a check: no other cause is ever named
+--   coax_check_named                the row that is named is the first that fails, with how many do
+--   coax_complete_then_check        what complete leaves, the check with the same count accepts
+--   coax_good_line, coax_line_good  the words that are accepted are just the good line words of the code's format,
+--                                   with the delimiter 0 of 0 bits
+--   coax_encode_then_check          what encode writes, the check with the same count accepts
+--   coax_encode_exact               what encode writes is the payload, then whatever parity makes every check hold
+--   coax_accepted_is_encoded        a word that is accepted is the one that encode writes for its payload
 use mathlib.Core.Path.{◌≡◌, refl, sym, ap, subst, ◌∙◌}
 use mathlib.Core.Logic.{◌⊎◌, inl, inr}
 use mathlib.Core.List.{List, []}

@@ -1,10 +1,10 @@
 -- Demand 3 of the three codes: one theorem over what a code fixes, cited for each.
 --
---   demand_three    it holds of any format of a code that has one parity, and one only, for all checks, where the
---                   format's sizes go together
---   fibre_demand    of the fibre code, whatever lists are lent
---   coax_demand     of either coax code
---   long_demand, short_demand    so of the two, each by its own table
+--   demand_three               it holds of any format of a code that has one parity, and one only, for all checks,
+--                              where the format's sizes go together
+--   fibre_demand               of the fibre code, whatever lists are lent
+--   coax_demand                of either coax code
+--   long_demand, short_demand  so of the two, each by its own table
 use mathlib.Core.List.{List}
 use Prim.Native.Nat.{ℕ}
 use Rattle.rules.specs.Formats.{Format, fibre_format}

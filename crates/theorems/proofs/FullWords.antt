@@ -1,13 +1,18 @@
 -- Full words: which the check accepts, what it names first, and that it accepts what complete leaves. Any format.
 --
---   word_accepted         a full word is accepted exactly when its shortened places are 0 and every check holds
---   shortened_named       a shortened place that is named is the lowest that is 1
---   check_named           a row that is named is the first that fails, with how many do; no shortened place is 1
---   Unset                 the shortened places of a word are 0
---   all_accepted, accepted_all, verdict_named    the same of the verdict alone, by whatever order
---   payload_kept, completed_length, completed_packed, completed_holds    what completing leaves: the payload places,
---                         the bytes, their unused bits, the checks
---   complete_then_check   what complete leaves, the check with the same payload count accepts
+--   word_accepted                                                      a full word is accepted exactly when its
+--                                                                      shortened places are 0 and every check holds
+--   shortened_named                                                    a shortened place that is named is the lowest
+--                                                                      that is 1
+--   check_named                                                        a row that is named is the first that fails,
+--                                                                      with how many do; no shortened place is 1
+--   Unset                                                              the shortened places of a word are 0
+--   all_accepted, accepted_all, verdict_named                          the same of the verdict alone, by whatever
+--                                                                      order
+--   payload_kept, completed_length, completed_packed, completed_holds  what completing leaves: the payload places, the
+--                                                                      bytes, their unused bits, the checks
+--   complete_then_check                                                what complete leaves, the check with the same
+--                                                                      payload count accepts
 use mathlib.Core.Path.{◌≡◌, refl, ap, subst, ◌∙◌}
 use mathlib.Core.List.{List}
 use Prim.Native.Nat.{ℕ, ◌+◌, ◌-◌, ◌*◌, ◌/◌, ◌≤◌, ◌<◌}

@@ -1,15 +1,17 @@
 -- The C boundary of the fibre code: two outcomes that fit one promise are equal, 0 is told exactly when written or
 -- accepted, a refusal is 1 to 65,535, and a check's answer can be read back from its number.
 --
---   answered_zero, answered_refused    0 exactly when done; any other number is a refusal, and what it leaves
---   told                    what the number of a check's answer tells, of any check
---   host_encode_same, host_word_same, host_line_same    two outcomes of one call are equal
---   host_encode_zero        0 exactly when written
---   host_word_zero, host_line_zero          0 exactly when accepted, in the words of demand 2
---   host_encode_refused     any other number is a refusal, 1 to 65,535, and every byte is as it was
---   host_word_refused, host_line_refused    a number from 1 to 65,535 exactly when it is the refusal
---   host_word_read, host_line_read          what is read back from the number is the check's answer
---   answers_apart           no two answers of the checks share a number
+--   answered_zero, answered_refused                   0 exactly when done; any other number is a refusal, and what it
+--                                                     leaves
+--   told                                              what the number of a check's answer tells, of any check
+--   host_encode_same, host_word_same, host_line_same  two outcomes of one call are equal
+--   host_encode_zero                                  0 exactly when written
+--   host_word_zero, host_line_zero                    0 exactly when accepted, in the words of demand 2
+--   host_encode_refused                               any other number is a refusal, 1 to 65,535, and every byte is as
+--                                                     it was
+--   host_word_refused, host_line_refused              a number from 1 to 65,535 exactly when it is the refusal
+--   host_word_read, host_line_read                    what is read back from the number is the check's answer
+--   answers_apart                                     no two answers of the checks share a number
 use mathlib.Core.Path.{◌≡◌, sym, ap, subst, ◌∙◌}
 use mathlib.Core.Logic.{⊎_elim}
 use mathlib.Core.List.{List}

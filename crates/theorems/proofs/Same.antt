@@ -4,10 +4,10 @@
 --   complete_same, word_check_same, encode_same, line_check_same, piece_same, finish_same
 --   completion_same, written_line_same, finished_same    the same by any order
 --
---   tail_written_same    what is written of a tail is single
---   written_bit    a bit that is written
---   stream_of      streams with the same number, the same count and the same running checks are equal
---   line_one       the line word of a payload is single
+--   tail_written_same  what is written of a tail is single
+--   written_bit        a bit that is written
+--   stream_of          streams with the same number, the same count and the same running checks are equal
+--   line_one           the line word of a payload is single
 use mathlib.Core.Path.{◌≡◌, refl, sym, ap, ap₂, subst, ◌∙◌}
 use mathlib.Core.List.{List, ◌++◌}
 use Prim.Native.Nat.{ℕ, ◌+◌, ◌-◌, ◌*◌, ◌/◌, ◌<◌}

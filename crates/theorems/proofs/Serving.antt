@@ -1,11 +1,12 @@
 -- W9 of paper 02: a stream serves the code that began it, and no other. Any format; and the numbers of the three codes.
 --
---   own_piece_served, own_finish_served    no call of the code that began a stream refuses it by 12, nor by 7
---   other_refused    an order of lists, a stream's state and any others tells 12 of a stream with another number, where
---                    the lists fit
---   other_piece_refused, other_finish_refused    so a piece and a finish refuse it by 12, whatever the stream
---   reached_other    a stream that one code began has another number than any code with another number
---   numbers_apart    no two of the three codes have one number
+--   own_piece_served, own_finish_served        no call of the code that began a stream refuses it by 12, nor by 7
+--   other_refused                              an order of lists, a stream's state and any others tells 12 of a stream
+--                                              with another number, where the lists fit
+--   other_piece_refused, other_finish_refused  so a piece and a finish refuse it by 12, whatever the stream
+--   reached_other                              a stream that one code began has another number than any code with
+--                                              another number
+--   numbers_apart                              no two of the three codes have one number
 --
 -- That a stream which is refused stays as it was is said by piece_kept and finish_kept of Refusing.
 use mathlib.Core.Path.{◌≡◌, refl, sym, ◌∙◌}

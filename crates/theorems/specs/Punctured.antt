@@ -1,9 +1,9 @@
 -- Paper 01, 'Verdicts', and W2 of paper 02: a line word that some punctured bits complete. The fibre code has 512 of
 -- them, in 64 bytes.
 --
---   all_outgoing f K l q    all outgoing parity bits of the line word l: its sent parity, then the punctured bits q
---   Completes f K l d q    q, the bytes of the punctured bits alone, completes l: there is a parity that makes every
---                          check of the full word of l's payload hold, and that goes out so; and l's delimiter is d
+--   all_outgoing f K l q  all outgoing parity bits of the line word l: its sent parity, then the punctured bits q
+--   Completes f K l d q   q, the bytes of the punctured bits alone, completes l: there is a parity that makes every
+--                         check of the full word of l's payload hold, and that goes out so; and l's delimiter is d
 --
 -- Believe this file beside the paper; nothing here is proved.
 use Rattle.std.specs.Prelude.{◌≡◌, List, ℕ, ◌+◌, ◌-◌, ◌<◌}
