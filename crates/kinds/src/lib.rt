@@ -1,12 +1,17 @@
 // What is known of the file at a path: whether it could be asked, which file it is, its kind and mode, and whose it is.
-// It is handed over by value, so that no caller has a reference to a struct, which only a proof by hand covers.
 #![tactic(auto)]
 
-ghost use Rattle.libc.specs.Io.{Ended};
+pub mod linux;
 
-use libc::types::{stat, timespec};
+ghost use Rattle.std.specs.Prelude.{◌≤◌, length};
 
-// fine: the system answered. Else the numbers are 0, and errno says why.
+use std::fs::{File, Metadata};
+use std::io::{Error, Result};
+use std::os::unix::fs::MetadataExt;
+use std::rt::{Env, Files};
+use std::{fs, str};
+
+// fine: the system answered, and error is 0. Else error says why, and the other numbers are 0.
 #[derive(Clone, Copy)]
 pub struct Known {
     pub fine: bool,
@@ -15,74 +20,104 @@ pub struct Known {
     pub mode: u32,
     pub owner: u32,
     pub group: u32,
+    pub error: i32,
 }
 
-// What the call answered, and what it left in the struct that it was lent.
-#[derive(Clone, Copy)]
-struct Asked {
-    status: i32,
-    answer: stat,
-}
+// What the program asks of the system that it runs on.
+pub trait System: Files<File = File> + Env + Alloc + Clone + Drop {}
 
-// The one function that lends a struct. It does nothing else, since its proof is by hand.
-fn ask(path: &[u8; 4096], mut answer: stat) -> Asked
-    requires { Ended path.now }
+impl<R: Files<File = File> + Env + Alloc + Clone + Drop> System for R {}
+
+// The longest path that the system takes. It puts a 0 after it.
+const LONGEST: usize = 4095;
+
+// A path as the system is handed it. One that is too long for it is left out.
+fn fitting(path: &[u8]) -> &[u8]
+    ensures { length result.now ≤ 4095 }
 {
-    let status = libc::stat(path, &mut answer);
-    Asked {
-        status: status,
-        answer: answer,
+    if LONGEST < path.len() {
+        return &path[..0];
+    }
+    path
+}
+
+// The path of the folder that has the file at a path.
+fn folder(path: &[u8]) -> &[u8] {
+    match path.iter().rposition(|byte| *byte == b'/') {
+        Some(at) => &path[..at + 1],
+        None => b".",
     }
 }
 
-fn blank() -> stat {
-    let never = timespec {
-        tv_sec: 0,
-        tv_nsec: 0,
-    };
-    let unused: [i64; 3] = [0; 3];
-    stat {
-        st_dev: 0,
-        st_ino: 0,
-        st_nlink: 0,
-        st_mode: 0,
-        st_uid: 0,
-        st_gid: 0,
-        __pad: 0,
-        st_rdev: 0,
-        st_size: 0,
-        st_blksize: 0,
-        st_blocks: 0,
-        st_atim: never,
-        st_mtim: never,
-        st_ctim: never,
-        __unused: unused,
+// Whether each name in a folder is text, or there is no folder. Other names are not told.
+fn has_texts(rt: &impl System, folder: &str) -> bool {
+    match fs::read_dir(rt, folder) {
+        Ok(entries) => {
+            for entry in entries {
+                if entry.is_err() {
+                    return false;
+                }
+            }
+            true
+        }
+        Err(error) => {
+            let number = linux::number(error);
+            number == linux::ENOENT || number == linux::ENOTDIR
+        }
+    }
+}
+
+// Whether there can be no file at a path that is no text.
+fn is_missing(rt: &impl System, path: &[u8]) -> bool {
+    match str::from_utf8(folder(path)) {
+        Ok(folder) => has_texts(rt, folder),
+        Err(_) => false,
+    }
+}
+
+// A path as text, which alone the system's calls take here. One that is none can be told to be missing, or else is
+// EILSEQ.
+pub fn text<'a>(rt: &impl System, path: &'a [u8]) -> Result<&'a str> {
+    match str::from_utf8(path) {
+        Ok(text) => Ok(text),
+        Err(_) => {
+            if is_missing(rt, path) {
+                return Err(Error::from_raw_os_error(linux::ENOENT));
+            }
+            Err(Error::from_raw_os_error(linux::EILSEQ))
+        }
+    }
+}
+
+// What the system answers.
+fn ask(rt: &impl System, path: &[u8]) -> Result<Metadata> {
+    fs::metadata(rt, text(rt, path)?)
+}
+
+fn blank(error: i32) -> Known {
+    Known {
+        fine: false,
+        device: 0,
+        file: 0,
+        mode: 0,
+        owner: 0,
+        group: 0,
+        error: error,
     }
 }
 
 // Follows links.
-pub fn at(path: &[u8; 4096]) -> Known
-    requires { Ended path.now }
-{
-    let asked = ask(path, blank());
-    // C does not promise to leave the struct as it was where it fails.
-    if asked.status != 0 {
-        return Known {
-            fine: false,
-            device: 0,
-            file: 0,
-            mode: 0,
-            owner: 0,
-            group: 0,
-        };
-    }
-    let answer = asked.answer;
-    Known {
-        fine: true,
-        device: answer.st_dev,
-        file: answer.st_ino,
-        mode: answer.st_mode,
-        owner: answer.st_uid,
-        group: answer.st_gid,
+pub fn at(rt: &impl System, path: &[u8]) -> Known {
+    match ask(rt, fitting(path)) {
+        Ok(answer) => Known {
+            fine: true,
+            device: answer.dev(),
+            file: answer.ino(),
+            mode: answer.mode(),
+            owner: answer.uid(),
+            group: answer.gid(),
+            error: 0,
+        },
+        Err(error) => blank(linux::number(error)),
     }
 }
