@@ -6,6 +6,8 @@ ghost use Rattle.console.specs.Spelled.{WithDigit, WithByte, Spelled, is_number,
 ghost use Rattle.console.specs.Lines.{bytes_of_line};
 
 use crate::say;
+use std::env::FillError;
+use std::rt::Env;
 
 // What a text spells: a number; nothing of the kind; or one above the largest usize.
 #[derive(Clone, Copy)]
@@ -81,32 +83,32 @@ pub fn value(number: Number) -> usize
 
 // The number that an argument of more than 64 bytes spells. One that is longer than the room is too large, if it begins
 // as a number.
-fn spelled_long(i: usize) -> Number {
+fn spelled_long(rt: &impl Env, i: usize) -> Number {
     let mut text = io::large_buffer();
-    let n = os::arg(i, &mut text);
-    if os::errno() != libc::ENAMETOOLONG {
-        return read(&text[..n]);
-    }
-    match read(&text) {
-        Number::Is(_) => Number::TooLarge,
-        Number::Nothing => Number::Nothing,
-        Number::TooLarge => Number::TooLarge,
+    match rt.arg(i, &mut text) {
+        Ok(n) => read(&text[..n]),
+        Err(FillError::NotPresent) => Number::Nothing,
+        Err(FillError::TooLong) => match read(&text) {
+            Number::Is(_) => Number::TooLarge,
+            Number::Nothing => Number::Nothing,
+            Number::TooLarge => Number::TooLarge,
+        },
     }
 }
 
 // The number that an argument spells. Few are long, and a large buffer takes time to clear.
-fn spelled(i: usize) -> Number {
+fn spelled(rt: &impl Env, i: usize) -> Number {
     let mut text = [0u8; 64];
-    let n = os::arg(i, &mut text);
-    if os::errno() != libc::ENAMETOOLONG {
-        return read(&text[..n]);
+    match rt.arg(i, &mut text) {
+        Ok(n) => read(&text[..n]),
+        Err(FillError::NotPresent) => Number::Nothing,
+        Err(FillError::TooLong) => spelled_long(rt, i),
     }
-    spelled_long(i)
 }
 
 // The number that an argument spells. What is wrong with it is said, with its name and the numbers to type.
-pub fn argument(i: usize, name: &[u8], range: &[u8]) -> Number {
-    let number = spelled(i);
+pub fn argument(rt: &impl Env, i: usize, name: &[u8], range: &[u8]) -> Number {
+    let number = spelled(rt, i);
     match number {
         Number::Is(_) => {}
         Number::Nothing => {

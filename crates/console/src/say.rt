@@ -4,15 +4,18 @@ ghost use Rattle.std.specs.Prelude.{◌≡◌, ◌+◌, ◌≤◌, min, max, len
 ghost use Rattle.answers.specs.Answers.{status_of, trouble, Told};
 
 use answers::Said;
-use libc::{STDERR_FILENO, STDOUT_FILENO};
 
 // Beside the answers' own statuses: something was wrong, and that was said; an answer could not be written.
 pub const TROUBLE: u8 = 3;
 
 pub const LOST: u8 = 4;
 
-// Where the program's exit status is written: a Rattle program has none of its own, so the script that starts it reads
-// it there.
+const STDOUT_FILENO: i32 = 1;
+
+const STDERR_FILENO: i32 = 2;
+
+// Where the program's exit status is written: the script that starts it reads it there. A program that was stopped has
+// written none.
 const STATUS_FILENO: i32 = 9;
 
 // The worse of two statuses.
@@ -120,5 +123,5 @@ pub fn exit(status: u8) {
     if status == LOST {
         fault(b"answers lost: they could not be written");
     }
-    libc::write(STATUS_FILENO, &[digit(status)]);
+    io::write_all(STATUS_FILENO, &[digit(status)]);
 }
