@@ -11,8 +11,8 @@ ghost use Rattle.rules.specs.Promises.{WordChecked, LineChecked};
 ghost use Rattle.rules.specs.Streams.{fresh};
 ghost use Rattle.codes.specs.Codes.{NamedBy, number_of, fibre_in, EncodedBy, CompletedBy, TakenBy, FinishedBy};
 
-use console::numbers;
-use console::numbers::Number;
+use console::decimals;
+use console::decimals::Number;
 use rules::{Answer, CoaxCode, Judgement, Outcome, Stream};
 
 #[derive(Clone, Copy)]
@@ -46,10 +46,10 @@ pub fn find(name: &[u8]) -> Named
 // The BITS of a whole payload, argument i.
 pub fn payload_bits(code: Code, i: usize) -> Number {
     match code {
-        Code::Fibre => numbers::argument(i, b"BITS", b"257 to 14392"),
+        Code::Fibre => decimals::argument(i, b"BITS", b"257 to 14392"),
         Code::Coax(coax) => match coax {
-            CoaxCode::Long => numbers::argument(i, b"BITS", b"14400"),
-            CoaxCode::Short => numbers::argument(i, b"BITS", b"5040"),
+            CoaxCode::Long => decimals::argument(i, b"BITS", b"14400"),
+            CoaxCode::Short => decimals::argument(i, b"BITS", b"5040"),
         },
     }
 }
@@ -57,10 +57,10 @@ pub fn payload_bits(code: Code, i: usize) -> Number {
 // The BITS of a piece, argument i.
 pub fn piece_bits(code: Code, i: usize) -> Number {
     match code {
-        Code::Fibre => numbers::argument(i, b"BITS", b"0 to 14392"),
+        Code::Fibre => decimals::argument(i, b"BITS", b"0 to 14392"),
         Code::Coax(coax) => match coax {
-            CoaxCode::Long => numbers::argument(i, b"BITS", b"0 to 14400"),
-            CoaxCode::Short => numbers::argument(i, b"BITS", b"0 to 5040"),
+            CoaxCode::Long => decimals::argument(i, b"BITS", b"0 to 14400"),
+            CoaxCode::Short => decimals::argument(i, b"BITS", b"0 to 5040"),
         },
     }
 }
@@ -101,7 +101,7 @@ pub fn encoded(code: Code, bits: usize, buffer: &[u8]) -> usize
     ensures { IsPrefixLen result buffer.now }
 {
     match code {
-        Code::Fibre => numbers::line_bytes(bits, buffer),
+        Code::Fibre => decimals::line_bytes(bits, buffer),
         Code::Coax(coax) => bytes_of(rules::coax::places(coax), buffer),
     }
 }

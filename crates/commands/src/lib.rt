@@ -14,9 +14,9 @@ ghost use Rattle.codes.specs.Codes.{fibre_in};
 
 use answers::Said;
 use codes::{Code, pair};
-use console::numbers::Number;
+use console::decimals::Number;
 use console::say::TROUBLE;
-use console::{files, numbers, say};
+use console::{decimals, files, say};
 use kinds::Known;
 use rules::{Answer, CoaxCode};
 
@@ -84,7 +84,7 @@ pub fn encode() -> u8 {
     let Number::Is(bits) = codes::payload_bits(Code::Fibre, 3) else {
         return TROUBLE;
     };
-    let Number::Is(delimiter) = numbers::argument(4, b"DELIMITER", b"0 to 1023") else {
+    let Number::Is(delimiter) = decimals::argument(4, b"DELIMITER", b"0 to 1023") else {
         return TROUBLE;
     };
     encode_file(Code::Fibre, bits, delimiter, 5)
@@ -245,7 +245,7 @@ pub fn check_line() -> u8 {
     let Number::Is(bits) = codes::payload_bits(Code::Fibre, 3) else {
         return TROUBLE;
     };
-    let Number::Is(delimiter) = numbers::argument(4, b"DELIMITER", b"0 to 1023") else {
+    let Number::Is(delimiter) = decimals::argument(4, b"DELIMITER", b"0 to 1023") else {
         return TROUBLE;
     };
     let mut lists = io::large_buffer();

@@ -5,7 +5,7 @@
 --   said_spelled     the decimal digits of a number below 2^64 spell it
 use mathlib.Core.Path.{◌≡◌, refl, sym, ◌∙◌}
 use mathlib.Core.List.{List, [], ◌∷◌, ◌++◌}
-use Prim.Native.Nat.{ℕ, zero, suc, ◌+◌, ◌-◌, ◌*◌, ◌/◌, ◌%◌, ◌^◌, ◌≤◌, ◌<◌}
+use Prim.Native.Nat.{ℕ, zero, suc, ◌+◌, ◌*◌, ◌/◌, ◌%◌, ◌^◌, ◌≤◌, ◌<◌}
 use native.Mathlib.Nat.{pow-suc}
 use native.Mathlib.Decide.{dec_lt, ℕ_discrete}
 use native.Mathlib.Omega.{arith}
@@ -14,7 +14,7 @@ use lib.Seq.{get_or-append_seam}
 use borrow.Author.Tests.{lt-ltb, le-ltb}
 use Rattle.lines.specs.Texts.{digits_of, decimal}
 use Rattle.console.specs.Spelled.{IsDigit, Digits, value_of, Spelled}
-use Rattle.console.specs.declared.numbers.Number.TheVariants.{Is}
+use Rattle.console.specs.declared.decimals.Number.TheVariants.{Is}
 
 pub front_same : (i : ℕ) (s t : List ℕ) → i ≤ length s → value_of i (s ++ t) ≡ value_of i s
 unfolding value_of

@@ -13,8 +13,8 @@ use native.Mathlib.Decide.{ℕ_discrete}
 use native.Mathlib.Omega.{arith}
 use lib.ListN.{length, get_or}
 use Rattle.console.specs.Spelled.{IsDigit, Digits, value_of, WithDigit, WithByte, Spelled}
-use Rattle.console.specs.declared.numbers.Number.{Number}
-use Rattle.console.specs.declared.numbers.Number.TheVariants.{Is, Nothing, TooLarge}
+use Rattle.console.specs.declared.decimals.Number.{Number}
+use Rattle.console.specs.declared.decimals.Number.TheVariants.{Is, Nothing, TooLarge}
 
 pub large_more : (b : ℕ) (r : Number) → WithDigit (2 ^ 64 - 1) b r → WithByte TooLarge b r
 large_more b (Is n) w = absurd (omega (arith, w.1, w.2))

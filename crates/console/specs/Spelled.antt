@@ -11,8 +11,8 @@
 --
 -- Nothing here is proved.
 use Rattle.std.specs.Prelude.{◌≡◌, Bool, true, false, ◌⊎◌, List, ℕ, zero, suc, ◌+◌, ◌-◌, ◌*◌, ◌^◌, ◌≤◌, ◌<◌, length, get_or}
-use Rattle.console.specs.declared.numbers.Number.{Number}
-use Rattle.console.specs.declared.numbers.Number.TheVariants.{Is, Nothing, TooLarge}
+use Rattle.console.specs.declared.decimals.Number.{Number}
+use Rattle.console.specs.declared.decimals.Number.TheVariants.{Is, Nothing, TooLarge}
 
 abbrev pub IsDigit : ℕ → Type 0
 IsDigit b = (48 ≤ b) × (b ≤ 57)

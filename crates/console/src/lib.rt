@@ -2,6 +2,6 @@
 #![tactic(auto)]
 
 pub mod arguments;
+pub mod decimals;
 pub mod files;
-pub mod numbers;
 pub mod say;

@@ -1,9 +1,9 @@
 // What the program says of itself, in lines of at most 40 characters: its commands, its answers and its refusals.
 #![tactic(auto)]
 
-use console::numbers::Number;
+use console::decimals::Number;
 use console::say::TROUBLE;
-use console::{numbers, say};
+use console::{decimals, say};
 
 pub fn version() -> u8 {
     say::text(b"birdovesta 4\n")
@@ -245,7 +245,7 @@ fn of_refusals() -> u8 {
     if os::arg_count() == 3 {
         return refusals();
     }
-    let Number::Is(number) = numbers::argument(3, b"NUMBER", b"1 to 17") else {
+    let Number::Is(number) = decimals::argument(3, b"NUMBER", b"1 to 17") else {
         return TROUBLE;
     };
     let said = refusal(number);

@@ -7,9 +7,9 @@ ghost use Rattle.std.specs.Prelude.{◌+◌, ◌*◌, ◌^◌, ◌≤◌, ◌<�
 
 use answers::Said;
 use codes::{Code, pair};
-use console::numbers::Number;
+use console::decimals::Number;
 use console::say::TROUBLE;
-use console::{files, numbers, say};
+use console::{decimals, files, say};
 use kinds::Known;
 use lessons::tally;
 use rules::{Answer, CoaxCode, Stream};
@@ -238,7 +238,7 @@ pub fn feed_fibre() -> u8 {
             b"a piece has two parts; type BITS PIECE\nbefore them: LISTS DELIMITER OUT",
         );
     }
-    let Number::Is(delimiter) = numbers::argument(3, b"DELIMITER", b"0 to 1023") else {
+    let Number::Is(delimiter) = decimals::argument(3, b"DELIMITER", b"0 to 1023") else {
         return TROUBLE;
     };
     feed_and_finish(Code::Fibre, delimiter, 4, (count - 5) / 2)

@@ -1,5 +1,5 @@
 // Hexadecimal digits, two a byte.
-use console::numbers::Number;
+use console::decimals::Number;
 use lessons::tally;
 
 // The value of a hexadecimal digit, or 16.

@@ -12,8 +12,8 @@ ghost use Rattle.codes.specs.Codes.{pair_bytes};
 use answers::Said;
 use codes::{Code, pair};
 use console::files::Got;
-use console::numbers::Number;
-use console::{files, numbers, say};
+use console::decimals::Number;
+use console::{decimals, files, say};
 use lessons::tally;
 use lessons::tally::Tally;
 use rules::Answer;
@@ -75,7 +75,7 @@ fn is_right(lists: &[u8], bits: usize, payload: &[u8], delimiter: usize, line: &
     let answer = codes::encode(Code::Fibre, lists, bits, payload, delimiter, &mut made);
     match answer {
         Answer::Done => {
-            let n = numbers::line_bytes(bits, &made);
+            let n = decimals::line_bytes(bits, &made);
             check::same(&made[..n], line)
         }
         Answer::Refused(_) => false,
@@ -172,26 +172,26 @@ fn take_words(
     let mut later = reading;
     later.is_open = true;
     if check::same(name, b"bits") {
-        let told = numbers::read(rest);
-        later.bits = numbers::value(told);
+        let told = decimals::read(rest);
+        later.bits = decimals::value(told);
         later.expected = expected(told, NUMBER, SMALLER);
         return later;
     }
     if check::same(name, b"delimiter") {
-        let told = numbers::read(rest);
-        later.delimiter = numbers::value(told);
+        let told = decimals::read(rest);
+        later.delimiter = decimals::value(told);
         later.expected = expected(told, NUMBER, SMALLER);
         return later;
     }
     if check::same(name, b"payload") {
         let told = digits::put(payload, later.payload, rest);
-        later.payload = numbers::value(told);
+        later.payload = decimals::value(told);
         later.expected = expected(told, DIGITS, FEWER);
         return later;
     }
     if check::same(name, b"line") {
         let told = digits::put(line, later.line, rest);
-        later.line = numbers::value(told);
+        later.line = decimals::value(told);
         later.expected = expected(told, DIGITS, FEWER);
         return later;
     }
