@@ -10,8 +10,9 @@ ghost use Rattle.std.specs.Prelude.{◌≡◌, ◌+◌, ◌*◌, ◌≤◌, ◌<
 ghost use Rattle.rules.specs.Bits.{need};
 ghost use Rattle.rules.specs.Promises.{refusal_of};
 
-use libc::STDOUT_FILENO;
 use rules::{Answer, Outcome, Stream, fibre};
+
+const STDOUT_FILENO: i32 = 1;
 
 // The payload's bits: 160 bytes and 5 bits.
 const K: usize = 1285;

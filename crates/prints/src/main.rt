@@ -4,7 +4,7 @@
 
 ghost use Rattle.std.specs.Prelude.{◌≤◌, ◌<◌};
 
-use libc::STDOUT_FILENO;
+const STDOUT_FILENO: i32 = 1;
 
 // Table 142-2, as printed: 69 lines of 12 entries, C1 to C12.
 const SECOND: [[i16; 12]; 69] = [
