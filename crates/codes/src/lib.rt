@@ -14,6 +14,7 @@ ghost use Rattle.codes.specs.Codes.{NamedBy, number_of, fibre_in, EncodedBy, Com
 use console::decimals;
 use console::decimals::Number;
 use rules::{Answer, CoaxCode, Judgement, Outcome, Stream};
+use std::rt::Env;
 
 #[derive(Clone, Copy)]
 pub enum Code {
@@ -44,23 +45,23 @@ pub fn find(name: &[u8]) -> Named
 }
 
 // The BITS of a whole payload, argument i.
-pub fn payload_bits(code: Code, i: usize) -> Number {
+pub fn payload_bits(rt: &impl Env, code: Code, i: usize) -> Number {
     match code {
-        Code::Fibre => decimals::argument(i, b"BITS", b"257 to 14392"),
+        Code::Fibre => decimals::argument(rt, i, b"BITS", b"257 to 14392"),
         Code::Coax(coax) => match coax {
-            CoaxCode::Long => decimals::argument(i, b"BITS", b"14400"),
-            CoaxCode::Short => decimals::argument(i, b"BITS", b"5040"),
+            CoaxCode::Long => decimals::argument(rt, i, b"BITS", b"14400"),
+            CoaxCode::Short => decimals::argument(rt, i, b"BITS", b"5040"),
         },
     }
 }
 
 // The BITS of a piece, argument i.
-pub fn piece_bits(code: Code, i: usize) -> Number {
+pub fn piece_bits(rt: &impl Env, code: Code, i: usize) -> Number {
     match code {
-        Code::Fibre => decimals::argument(i, b"BITS", b"0 to 14392"),
+        Code::Fibre => decimals::argument(rt, i, b"BITS", b"0 to 14392"),
         Code::Coax(coax) => match coax {
-            CoaxCode::Long => decimals::argument(i, b"BITS", b"0 to 14400"),
-            CoaxCode::Short => decimals::argument(i, b"BITS", b"0 to 5040"),
+            CoaxCode::Long => decimals::argument(rt, i, b"BITS", b"0 to 14400"),
+            CoaxCode::Short => decimals::argument(rt, i, b"BITS", b"0 to 5040"),
         },
     }
 }

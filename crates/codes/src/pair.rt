@@ -8,6 +8,7 @@ use crate::Code;
 use answers::Said;
 use console::files;
 use console::files::Got;
+use kinds::System;
 use rules::fibre;
 
 // The bytes of both lists.
@@ -36,7 +37,7 @@ pub fn fill_plain(room: &mut [u8]) -> usize
 }
 
 // Reads the pair that LISTS names: `plain` names the one that changes nothing, and all else a file.
-pub fn read_at(name: &[u8], room: &mut [u8]) -> Got
+pub fn read_at(rt: &impl System, name: &[u8], room: &mut [u8]) -> Got
     requires { pair_bytes ≤ length room.old }
     ensures { IsPrefixLen result.size room.new }
 {
@@ -47,11 +48,11 @@ pub fn read_at(name: &[u8], room: &mut [u8]) -> Got
             size: size,
         };
     }
-    files::read_at(name, room)
+    files::read_at(rt, name, room)
 }
 
 // Reads the pair of a command: LISTS is argument 2, and a coax command has none.
-pub fn read(code: Code, room: &mut [u8]) -> Got
+pub fn read(rt: &impl System, code: Code, room: &mut [u8]) -> Got
     requires { pair_bytes ≤ length room.old }
     ensures { IsPrefixLen result.size room.new }
 {
@@ -62,14 +63,14 @@ pub fn read(code: Code, room: &mut [u8]) -> Got
         };
     };
     let mut name = io::buffer();
-    let n = files::path(2, &mut name);
+    let n = files::path(rt, 2, &mut name);
     if n == 0 {
         return Got {
             fine: false,
             size: 0,
         };
     }
-    read_at(&name[..n], room)
+    read_at(rt, &name[..n], room)
 }
 
 // What is answered of a pair.

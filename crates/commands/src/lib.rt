@@ -16,12 +16,13 @@ use answers::Said;
 use codes::{Code, pair};
 use console::decimals::Number;
 use console::say::TROUBLE;
-use console::{decimals, files, say};
-use kinds::Known;
+use console::{arguments, decimals, files, say};
+use kinds::{Known, System};
 use rules::{Answer, CoaxCode};
 
 // Encodes the payload that was read into OUT.
 fn encode_into(
+    rt: &impl System,
     code: Code,
     lists: &[u8],
     known: Known,
@@ -37,35 +38,36 @@ fn encode_into(
     match answer {
         Answer::Done => {
             let n = codes::encoded(code, bits, &word);
-            outputs::write(known, path, &word[..n])
+            outputs::write(rt, known, path, &word[..n])
         }
         Answer::Refused(number) => say::answer(Said::Refused(number)),
     }
 }
 
 // Encodes PAYLOAD, argument i, into OUT, the next.
-fn encode_file(code: Code, bits: usize, delimiter: usize, i: usize) -> u8
+fn encode_file(rt: &impl System, code: Code, bits: usize, delimiter: usize, i: usize) -> u8
     requires { i + 1 < 2 ^ 64 }
 {
     let mut path = io::buffer();
-    let output = outputs::find(i + 1, &mut path);
+    let output = outputs::find(rt, i + 1, &mut path);
     let to = output.size;
     if to == 0 {
         return TROUBLE;
     }
     let mut lists = io::large_buffer();
-    let lent = pair::read(code, &mut lists);
+    let lent = pair::read(rt, code, &mut lists);
     if !lent.fine {
         return TROUBLE;
     }
     let mut payload = io::buffer();
-    let got = files::read(i, &mut payload);
+    let got = files::read(rt, i, &mut payload);
     if !got.fine {
         return TROUBLE;
     }
     let n = lent.size;
     let size = got.size;
     encode_into(
+        rt,
         code,
         &lists[..n],
         output.known,
@@ -77,33 +79,34 @@ fn encode_file(code: Code, bits: usize, delimiter: usize, i: usize) -> u8
 }
 
 // encode LISTS BITS DELIMITER PAYLOAD OUT
-pub fn encode() -> u8 {
-    if os::arg_count() != 7 {
+pub fn encode(rt: &impl System) -> u8 {
+    if arguments::count(rt) != 7 {
         return say::fault(b"encode needs\nLISTS BITS DELIMITER PAYLOAD OUT");
     }
-    let Number::Is(bits) = codes::payload_bits(Code::Fibre, 3) else {
+    let Number::Is(bits) = codes::payload_bits(rt, Code::Fibre, 3) else {
         return TROUBLE;
     };
-    let Number::Is(delimiter) = decimals::argument(4, b"DELIMITER", b"0 to 1023") else {
+    let Number::Is(delimiter) = decimals::argument(rt, 4, b"DELIMITER", b"0 to 1023") else {
         return TROUBLE;
     };
-    encode_file(Code::Fibre, bits, delimiter, 5)
+    encode_file(rt, Code::Fibre, bits, delimiter, 5)
 }
 
 // coax CODE encode BITS PAYLOAD OUT
-pub fn encode_coax(coax: CoaxCode) -> u8 {
-    if os::arg_count() != 7 {
+pub fn encode_coax(rt: &impl System, coax: CoaxCode) -> u8 {
+    if arguments::count(rt) != 7 {
         return say::fault(b"encode needs BITS PAYLOAD OUT");
     }
     let code = Code::Coax(coax);
-    let Number::Is(bits) = codes::payload_bits(code, 4) else {
+    let Number::Is(bits) = codes::payload_bits(rt, code, 4) else {
         return TROUBLE;
     };
-    encode_file(code, bits, codes::NO_DELIMITER, 5)
+    encode_file(rt, code, bits, codes::NO_DELIMITER, 5)
 }
 
 // Completes the word that was read into OUT.
 fn complete_into(
+    rt: &impl System,
     code: Code,
     lists: &[u8],
     known: Known,
@@ -114,37 +117,38 @@ fn complete_into(
     requires { length path.now ≤ 4091 }
 {
     match codes::complete(code, lists, bits, word) {
-        Answer::Done => outputs::write(known, path, word),
+        Answer::Done => outputs::write(rt, known, path, word),
         Answer::Refused(number) => say::answer(Said::Refused(number)),
     }
 }
 
 // Completes WORD, argument i + 1, into OUT, the next. BITS is argument i.
-fn complete_file(code: Code, i: usize) -> u8
+fn complete_file(rt: &impl System, code: Code, i: usize) -> u8
     requires { i + 2 < 2 ^ 64 }
 {
-    let Number::Is(bits) = codes::payload_bits(code, i) else {
+    let Number::Is(bits) = codes::payload_bits(rt, code, i) else {
         return TROUBLE;
     };
     let mut path = io::buffer();
-    let output = outputs::find(i + 2, &mut path);
+    let output = outputs::find(rt, i + 2, &mut path);
     let to = output.size;
     if to == 0 {
         return TROUBLE;
     }
     let mut lists = io::large_buffer();
-    let lent = pair::read(code, &mut lists);
+    let lent = pair::read(rt, code, &mut lists);
     if !lent.fine {
         return TROUBLE;
     }
     let mut word = io::buffer();
-    let got = files::read(i + 1, &mut word);
+    let got = files::read(rt, i + 1, &mut word);
     if !got.fine {
         return TROUBLE;
     }
     let n = lent.size;
     let size = got.size;
     complete_into(
+        rt,
         code,
         &lists[..n],
         output.known,
@@ -155,19 +159,19 @@ fn complete_file(code: Code, i: usize) -> u8
 }
 
 // complete LISTS BITS WORD OUT
-pub fn complete() -> u8 {
-    if os::arg_count() != 6 {
+pub fn complete(rt: &impl System) -> u8 {
+    if arguments::count(rt) != 6 {
         return say::fault(b"complete needs LISTS BITS WORD OUT");
     }
-    complete_file(Code::Fibre, 3)
+    complete_file(rt, Code::Fibre, 3)
 }
 
 // coax CODE complete BITS WORD OUT
-pub fn complete_coax(coax: CoaxCode) -> u8 {
-    if os::arg_count() != 7 {
+pub fn complete_coax(rt: &impl System, coax: CoaxCode) -> u8 {
+    if arguments::count(rt) != 7 {
         return say::fault(b"complete needs BITS WORD OUT");
     }
-    complete_file(Code::Coax(coax), 4)
+    complete_file(rt, Code::Coax(coax), 4)
 }
 
 // What is said of a full word.
@@ -193,19 +197,19 @@ fn say_answer(code: Code, lists: &[u8], bits: usize, word: &[u8]) -> u8 {
 }
 
 // Checks WORD, argument i + 1. BITS is argument i.
-fn check_file(code: Code, i: usize) -> u8
+fn check_file(rt: &impl System, code: Code, i: usize) -> u8
     requires { i + 1 < 2 ^ 64 }
 {
-    let Number::Is(bits) = codes::payload_bits(code, i) else {
+    let Number::Is(bits) = codes::payload_bits(rt, code, i) else {
         return TROUBLE;
     };
     let mut lists = io::large_buffer();
-    let lent = pair::read(code, &mut lists);
+    let lent = pair::read(rt, code, &mut lists);
     if !lent.fine {
         return TROUBLE;
     }
     let mut word = io::buffer();
-    let got = files::read(i + 1, &mut word);
+    let got = files::read(rt, i + 1, &mut word);
     if !got.fine {
         return TROUBLE;
     }
@@ -215,19 +219,19 @@ fn check_file(code: Code, i: usize) -> u8
 }
 
 // word LISTS BITS WORD
-pub fn check_word() -> u8 {
-    if os::arg_count() != 5 {
+pub fn check_word(rt: &impl System) -> u8 {
+    if arguments::count(rt) != 5 {
         return say::fault(b"word needs LISTS BITS WORD");
     }
-    check_file(Code::Fibre, 3)
+    check_file(rt, Code::Fibre, 3)
 }
 
 // coax CODE word BITS WORD
-pub fn check_coax(coax: CoaxCode) -> u8 {
-    if os::arg_count() != 6 {
+pub fn check_coax(rt: &impl System, coax: CoaxCode) -> u8 {
+    if arguments::count(rt) != 6 {
         return say::fault(b"word needs BITS WORD");
     }
-    check_file(Code::Coax(coax), 4)
+    check_file(rt, Code::Coax(coax), 4)
 }
 
 // What is said of a line word.
@@ -238,23 +242,23 @@ pub fn line_answer(lists: &[u8], bits: usize, line: &[u8], delimiter: usize) -> 
 }
 
 // line LISTS BITS DELIMITER LINE
-pub fn check_line() -> u8 {
-    if os::arg_count() != 6 {
+pub fn check_line(rt: &impl System) -> u8 {
+    if arguments::count(rt) != 6 {
         return say::fault(b"line needs LISTS BITS DELIMITER LINE");
     }
-    let Number::Is(bits) = codes::payload_bits(Code::Fibre, 3) else {
+    let Number::Is(bits) = codes::payload_bits(rt, Code::Fibre, 3) else {
         return TROUBLE;
     };
-    let Number::Is(delimiter) = decimals::argument(4, b"DELIMITER", b"0 to 1023") else {
+    let Number::Is(delimiter) = decimals::argument(rt, 4, b"DELIMITER", b"0 to 1023") else {
         return TROUBLE;
     };
     let mut lists = io::large_buffer();
-    let lent = pair::read(Code::Fibre, &mut lists);
+    let lent = pair::read(rt, Code::Fibre, &mut lists);
     if !lent.fine {
         return TROUBLE;
     }
     let mut line = io::buffer();
-    let got = files::read(5, &mut line);
+    let got = files::read(rt, 5, &mut line);
     if !got.fine {
         return TROUBLE;
     }

@@ -4,20 +4,21 @@ ghost use Rattle.std.specs.Prelude.{◌≡◌, ℕ, ◌+◌, ◌*◌, ◌≤◌,
 
 use codes::pair;
 use console::say::TROUBLE;
-use console::{files, say};
+use console::{arguments, files, say};
+use kinds::System;
 use rules::fibre;
 
 // lists OUT
-fn write() -> u8 {
+fn write(rt: &impl System) -> u8 {
     let mut path = io::buffer();
-    let output = outputs::find(2, &mut path);
+    let output = outputs::find(rt, 2, &mut path);
     let to = output.size;
     if to == 0 {
         return TROUBLE;
     }
     let mut lists = io::large_buffer();
     let n = pair::fill_plain(&mut lists);
-    outputs::write(output.known, &path[..to], &lists[..n])
+    outputs::write(rt, output.known, &path[..to], &lists[..n])
 }
 
 // Tells the first entry of a list that is at fault, where one is.
@@ -56,9 +57,9 @@ fn tell_faults(pair: &[u8]) {
 }
 
 // lists check FILE
-fn test() -> u8 {
+fn test(rt: &impl System) -> u8 {
     let mut lists = io::large_buffer();
-    let got = files::read(3, &mut lists);
+    let got = files::read(rt, 3, &mut lists);
     if !got.fine {
         return TROUBLE;
     }
@@ -69,19 +70,19 @@ fn test() -> u8 {
 }
 
 // lists OUT, lists check FILE. A file of the name check is written as ./check, so that a FILE left out writes none.
-pub fn run() -> u8 {
-    let count = os::arg_count();
+pub fn run(rt: &impl System) -> u8 {
+    let count = arguments::count(rt);
     let mut word = [0u8; 16];
-    let n = os::arg(2, &mut word);
+    let n = arguments::word(rt, 2, &mut word);
     let is_check = check::same(&word[..n], b"check");
     if count == 3 {
         if !is_check {
-            return write();
+            return write(rt);
         }
     }
     if count == 4 {
         if is_check {
-            return test();
+            return test(rt);
         }
     }
     say::fault(b"lists needs OUT, or check FILE")

@@ -3,7 +3,8 @@
 
 use console::decimals::Number;
 use console::say::TROUBLE;
-use console::{decimals, say};
+use console::{arguments, decimals, say};
+use std::rt::Env;
 
 pub fn version() -> u8 {
     say::text(b"birdovesta 4\n")
@@ -241,11 +242,11 @@ fn refusals() -> u8 {
 }
 
 // help refusal [NUMBER]
-fn of_refusals() -> u8 {
-    if os::arg_count() == 3 {
+fn of_refusals(rt: &impl Env) -> u8 {
+    if arguments::count(rt) == 3 {
         return refusals();
     }
-    let Number::Is(number) = decimals::argument(3, b"NUMBER", b"1 to 17") else {
+    let Number::Is(number) = decimals::argument(rt, 3, b"NUMBER", b"1 to 17") else {
         return TROUBLE;
     };
     let said = refusal(number);
@@ -359,16 +360,16 @@ fn of_word(name: &[u8]) -> u8 {
 }
 
 // help [COMMAND], help refusal [NUMBER], help ANSWER
-pub fn say() -> u8 {
-    let count = os::arg_count();
+pub fn say(rt: &impl Env) -> u8 {
+    let count = arguments::count(rt);
     if count == 2 {
         return all();
     }
     let mut word = [0u8; 16];
-    let n = os::arg(2, &mut word);
+    let n = arguments::word(rt, 2, &mut word);
     if check::same(&word[..n], b"refusal") {
         if count < 5 {
-            return of_refusals();
+            return of_refusals(rt);
         }
     }
     if count == 3 {

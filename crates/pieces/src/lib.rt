@@ -9,8 +9,8 @@ use answers::Said;
 use codes::{Code, pair};
 use console::decimals::Number;
 use console::say::TROUBLE;
-use console::{decimals, files, say};
-use kinds::Known;
+use console::{arguments, decimals, files, say};
+use kinds::{Known, System};
 use lessons::tally;
 use rules::{Answer, CoaxCode, Stream};
 
@@ -24,21 +24,21 @@ struct Feeding {
 }
 
 // A piece is two arguments, BITS and PIECE, from argument i on: whether the one is a number and the other a file.
-fn is_piece(code: Code, i: usize) -> bool
+fn is_piece(rt: &impl System, code: Code, i: usize) -> bool
     requires { i + 1 < 2 ^ 64 }
 {
-    let Number::Is(_) = codes::piece_bits(code, i) else {
+    let Number::Is(_) = codes::piece_bits(rt, code, i) else {
         return false;
     };
-    files::is_there(i + 1)
+    files::is_there(rt, i + 1)
 }
 
 // Whether all the pieces are there, from argument i on.
-fn are_pieces(code: Code, i: usize, pieces: usize) -> bool
+fn are_pieces(rt: &impl System, code: Code, i: usize, pieces: usize) -> bool
     requires { i + 2 * pieces < 2 ^ 64 }
 {
     for p in 0..pieces {
-        if !is_piece(code, i + 2 * p) {
+        if !is_piece(rt, code, i + 2 * p) {
             return false;
         }
     }
@@ -109,14 +109,21 @@ fn fed(
 }
 
 // Feeds a piece, whose BITS is argument i.
-fn feed(code: Code, lists: &[u8], feeding: Feeding, piece: usize, i: usize) -> Feeding
+fn feed(
+    rt: &impl System,
+    code: Code,
+    lists: &[u8],
+    feeding: Feeding,
+    piece: usize,
+    i: usize,
+) -> Feeding
     requires { i + 1 < 2 ^ 64 }
 {
-    let Number::Is(bits) = codes::piece_bits(code, i) else {
+    let Number::Is(bits) = codes::piece_bits(rt, code, i) else {
         return stopped(feeding);
     };
     let mut bytes = io::large_buffer();
-    let got = files::read(i + 1, &mut bytes);
+    let got = files::read(rt, i + 1, &mut bytes);
     if !got.fine {
         return stopped(feeding);
     }
@@ -125,7 +132,7 @@ fn feed(code: Code, lists: &[u8], feeding: Feeding, piece: usize, i: usize) -> F
 }
 
 // Feeds all the pieces, from argument i on, to a fresh stream.
-fn feed_all(code: Code, lists: &[u8], i: usize, pieces: usize) -> Feeding
+fn feed_all(rt: &impl System, code: Code, lists: &[u8], i: usize, pieces: usize) -> Feeding
     requires { i + 2 * pieces < 2 ^ 64 }
 {
     let stream = codes::begin(code);
@@ -136,7 +143,7 @@ fn feed_all(code: Code, lists: &[u8], i: usize, pieces: usize) -> Feeding
         fine: true,
     };
     for p in 0..pieces {
-        feeding = feed(code, lists, feeding, p + 1, i + 2 * p);
+        feeding = feed(rt, code, lists, feeding, p + 1, i + 2 * p);
         if !feeding.fine {
             return feeding;
         }
@@ -146,6 +153,7 @@ fn feed_all(code: Code, lists: &[u8], i: usize, pieces: usize) -> Feeding
 
 // Finishes the stream into OUT.
 fn finish(
+    rt: &impl System,
     code: Code,
     lists: &[u8],
     stream: Stream,
@@ -161,7 +169,7 @@ fn finish(
     match answer {
         Answer::Done => {
             let n = codes::finished(code, &tail);
-            outputs::write(known, path, &tail[..n])
+            outputs::write(rt, known, path, &tail[..n])
         }
         Answer::Refused(number) => say::answer(Said::Refused(number)),
     }
@@ -177,6 +185,7 @@ fn say_refused(count: usize) -> u8 {
 
 // Feeds the pieces, from argument i on, by the lists, and finishes into OUT.
 fn feed_by(
+    rt: &impl System,
     code: Code,
     lists: &[u8],
     delimiter: usize,
@@ -187,36 +196,37 @@ fn feed_by(
 ) -> u8
     requires { (i + 2 * pieces < 2 ^ 64) × (length path.now ≤ 4091) }
 {
-    let feeding = feed_all(code, lists, i, pieces);
+    let feeding = feed_all(rt, code, lists, i, pieces);
     if !feeding.fine {
         return TROUBLE;
     }
     let later = feeding.stream;
-    let last = finish(code, lists, later, delimiter, known, path);
+    let last = finish(rt, code, lists, later, delimiter, known, path);
     let refused = say_refused(feeding.refused);
     say::worse(feeding.status, say::worse(last, refused))
 }
 
 // Feeds so many pieces and finishes. OUT is argument i, and the pieces come after it.
-fn feed_and_finish(code: Code, delimiter: usize, i: usize, pieces: usize) -> u8
+fn feed_and_finish(rt: &impl System, code: Code, delimiter: usize, i: usize, pieces: usize) -> u8
     requires { i + 1 + 2 * pieces < 2 ^ 64 }
 {
     let mut path = io::buffer();
-    let output = outputs::find(i, &mut path);
+    let output = outputs::find(rt, i, &mut path);
     let to = output.size;
     if to == 0 {
         return TROUBLE;
     }
     let mut lists = io::large_buffer();
-    let lent = pair::read(code, &mut lists);
+    let lent = pair::read(rt, code, &mut lists);
     if !lent.fine {
         return TROUBLE;
     }
-    if !are_pieces(code, i + 1, pieces) {
+    if !are_pieces(rt, code, i + 1, pieces) {
         return TROUBLE;
     }
     let n = lent.size;
     feed_by(
+        rt,
         code,
         &lists[..n],
         delimiter,
@@ -228,8 +238,8 @@ fn feed_and_finish(code: Code, delimiter: usize, i: usize, pieces: usize) -> u8
 }
 
 // stream LISTS DELIMITER OUT [BITS PIECE]...
-pub fn feed_fibre() -> u8 {
-    let count = os::arg_count();
+pub fn feed_fibre(rt: &impl System) -> u8 {
+    let count = arguments::count(rt);
     if count < 5 {
         return say::fault(b"stream needs\nLISTS DELIMITER OUT [BITS PIECE]...");
     }
@@ -238,20 +248,26 @@ pub fn feed_fibre() -> u8 {
             b"a piece has two parts; type BITS PIECE\nbefore them: LISTS DELIMITER OUT",
         );
     }
-    let Number::Is(delimiter) = decimals::argument(3, b"DELIMITER", b"0 to 1023") else {
+    let Number::Is(delimiter) = decimals::argument(rt, 3, b"DELIMITER", b"0 to 1023") else {
         return TROUBLE;
     };
-    feed_and_finish(Code::Fibre, delimiter, 4, (count - 5) / 2)
+    feed_and_finish(rt, Code::Fibre, delimiter, 4, (count - 5) / 2)
 }
 
 // coax CODE stream OUT [BITS PIECE]...
-pub fn feed_coax(coax: CoaxCode) -> u8 {
-    let count = os::arg_count();
+pub fn feed_coax(rt: &impl System, coax: CoaxCode) -> u8 {
+    let count = arguments::count(rt);
     if count < 5 {
         return say::fault(b"stream needs OUT [BITS PIECE]");
     }
     if (count - 5) % 2 != 0 {
         return say::fault(b"a piece has two parts; type BITS PIECE");
     }
-    feed_and_finish(Code::Coax(coax), codes::NO_DELIMITER, 4, (count - 5) / 2)
+    feed_and_finish(
+        rt,
+        Code::Coax(coax),
+        codes::NO_DELIMITER,
+        4,
+        (count - 5) / 2,
+    )
 }

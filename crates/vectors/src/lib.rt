@@ -11,9 +11,10 @@ ghost use Rattle.codes.specs.Codes.{pair_bytes};
 
 use answers::Said;
 use codes::{Code, pair};
-use console::files::Got;
 use console::decimals::Number;
-use console::{decimals, files, say};
+use console::files::Got;
+use console::{arguments, decimals, files, say};
+use kinds::System;
 use lessons::tally;
 use lessons::tally::Tally;
 use rules::Answer;
@@ -128,11 +129,11 @@ fn end(reading: Reading, payload: &[u8], line: &[u8], lists: &[u8]) -> Reading {
 }
 
 // A line that names lists: they are read, and hold from there on. It opens no vector.
-fn take_lists(reading: Reading, name: &[u8], lists: &mut [u8]) -> Reading
+fn take_lists(rt: &impl System, reading: Reading, name: &[u8], lists: &mut [u8]) -> Reading
     requires { pair_bytes ≤ length lists.old }
 {
     let mut later = reading;
-    let got = pair::read_at(name, lists);
+    let got = pair::read_at(rt, name, lists);
     later.lists = got.size;
     if !got.fine {
         later.is_open = true;
@@ -201,6 +202,7 @@ fn take_words(
 
 // One line of the file. An empty one, and one that begins with #, says nothing.
 fn take_line(
+    rt: &impl System,
     reading: Reading,
     text: &[u8],
     payload: &mut [u8],
@@ -221,7 +223,7 @@ fn take_line(
     let to = words::find(words, from, Sought::Blank);
     let rest = words::find(words, to, Sought::Word);
     if check::same(&words[from..to], b"lists") {
-        return take_lists(reading, &words[rest..n], lists);
+        return take_lists(rt, reading, &words[rest..n], lists);
     }
     if check::same(&words[from..to], b"end") {
         return take_end(reading, &words[rest..n], payload, line, lists);
@@ -261,7 +263,7 @@ fn told(reading: Reading, lines: usize) -> Tally {
 }
 
 // Runs every vector of a text, a line each. It stops at the first line that is not as expected.
-pub fn run(text: &[u8], tally: Tally) -> Tally {
+pub fn run(rt: &impl System, text: &[u8], tally: Tally) -> Tally {
     let mut payload = [0u8; 1800];
     let mut line = [0u8; 2122];
     let mut lists = io::large_buffer();
@@ -271,6 +273,7 @@ pub fn run(text: &[u8], tally: Tally) -> Tally {
     while from < text.len() {
         let to = words::find(text, from, Sought::LineEnd);
         reading = take_line(
+            rt,
             reading,
             &text[from..to],
             &mut payload,
@@ -291,14 +294,14 @@ pub fn run(text: &[u8], tally: Tally) -> Tally {
 
 // Reads the file of vectors that an argument names, or else vectors.txt in this folder, if it is there. No file has no
 // vectors.
-pub fn read(room: &mut [u8]) -> Got
+pub fn read(rt: &impl System, room: &mut [u8]) -> Got
     ensures { IsPrefixLen result.size room.new }
 {
-    if os::arg_count() == 3 {
-        return files::read(2, room);
+    if arguments::count(rt) == 3 {
+        return files::read(rt, 2, room);
     }
-    if files::known(b"vectors.txt").fine {
-        return files::read_at(b"vectors.txt", room);
+    if files::known(rt, b"vectors.txt").fine {
+        return files::read_at(rt, b"vectors.txt", room);
     }
     Got {
         fine: true,
