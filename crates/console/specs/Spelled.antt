@@ -10,7 +10,8 @@
 --   or_zero r        that number, or 0
 --
 -- Nothing here is proved.
-use Rattle.std.specs.Prelude.{◌≡◌, Bool, true, false, ◌⊎◌, List, ℕ, zero, suc, ◌+◌, ◌-◌, ◌*◌, ◌^◌, ◌≤◌, ◌<◌, length, get_or}
+use Rattle.std.specs.Prelude.{◌≡◌, Bool, true, false, ◌⊎◌, List, ℕ, zero, suc}
+use Rattle.std.specs.Prelude.{◌+◌, ◌-◌, ◌*◌, ◌^◌, ◌≤◌, ◌<◌, length, get_or}
 use Rattle.console.specs.declared.decimals.Number.{Number}
 use Rattle.console.specs.declared.decimals.Number.TheVariants.{Is, Nothing, TooLarge}
 
