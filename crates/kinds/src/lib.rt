@@ -90,7 +90,9 @@ pub fn text<'a>(rt: &impl System, path: &'a [u8]) -> Result<&'a str> {
 }
 
 // What the system answers.
-fn ask(rt: &impl System, path: &[u8]) -> Result<Metadata> {
+fn ask(rt: &impl System, path: &[u8]) -> Result<Metadata>
+    requires { length path.now ≤ 4095 }
+{
     fs::metadata(rt, text(rt, path)?)
 }
 
