@@ -31,7 +31,8 @@ use Rattle.rules.specs.declared.Outcome.{Outcome}
 use Rattle.rules.specs.declared.CoaxCode.{CoaxCode}
 use Rattle.theorems.specs.Attempts.{chosen, Reached, finish}
 use Rattle.theorems.proofs.Streams.{held_counted, second_refused}
-use Rattle.theorems.proofs.Serving.{own_finish_served, other_finish_refused}
+use Rattle.theorems.proofs.Serving.{own_finish_served}
+use Rattle.theorems.proofs.Others.{other_finish_refused}
 use Rattle.theorems.proofs.Coax.{coax_sized, coax_encoded, coax_finished, coax_finish_exactly}
 use Rattle.theorems.proofs.Demand.{coax_demand}
 

@@ -5,6 +5,7 @@ pub mod FullWords
 pub mod Lines
 pub mod Streams
 pub mod Serving
+pub mod Others
 pub mod Fibre
 pub mod Plain
 pub mod Host

@@ -1,14 +1,14 @@
 -- W9 of paper 02: a stream serves the code that began it, and no other. Any format; and the numbers of the three codes.
 --
---   own_piece_served, own_finish_served        no call of the code that began a stream refuses it by 12, nor by 7
---   other_refused                              an order of lists, a stream's state and any others tells 12 of a stream
---                                              with another number, where the lists fit
---   other_piece_refused, other_finish_refused  so a piece and a finish refuse it by 12, whatever the stream
---   reached_other                              a stream that one code began has another number than any code with
---                                              another number
---   numbers_apart                              no two of the three codes have one number
+--   own_piece_served, own_finish_served  no call of the code that began a stream refuses it by 12, nor by 7
+--   other_refused                        an order of lists, a stream's state and any others tells 12 of a stream with
+--                                        another number, where the lists fit
+--   reached_other                        a stream that one code began has another number than any code with another
+--                                        number
+--   numbers_apart                        no two of the three codes have one number
 --
--- That a stream which is refused stays as it was is said by piece_kept and finish_kept of Refusing.
+-- That a piece and a finish so refuse a stream with another number by 12 is in Others. That a stream which is refused
+-- stays as it was is said by piece_kept and finish_kept of Refusing.
 use mathlib.Core.Path.{◌≡◌, refl, sym, ◌∙◌}
 use mathlib.Core.Bool.{Bool, not}
 use mathlib.Core.Logic.{◌⊎◌, inl, inr, ⊎_elim}
@@ -79,13 +79,6 @@ module _ (g : Format) (fit : ListsFit g) (t : Stream) (other : t.number ≡ g.nu
   other_refused o r x =
       told_single (of_lists g ++ (of_stream g t ++ o)) r 12 x
       (lent_told g (of_stream g t ++ o) 12 fit (inl (other, refl)))
-
-  pub other_piece_refused : (b : ℕ) (s : List ℕ) (r : Outcome) → PieceTaken g b s t r → refusal_of r.answer ≡ 12
-  other_piece_refused b s r p = other_refused _ (refusal_of r.answer) p.told
-
-  pub other_finish_refused : (d : ℕ) (o : List ℕ) (r : Outcome) (o' : List ℕ) → Finished g d t o r o'
-      → refusal_of r.answer ≡ 12
-  other_finish_refused d o r o' p = other_refused _ (refusal_of r.answer) p.told
 
 pub numbers_apart : (a b : List ℕ) → ((fibre_format a b).number ≡ (coax_format Long).number → ⊥)
     × ((fibre_format a b).number ≡ (coax_format Short).number → ⊥)
