@@ -12,6 +12,9 @@ ghost use Rattle.rules.specs.Terms.{proper, Proper, spot, through};
 ghost use Rattle.running.specs.Running.{HasBlocks};
 ghost use Rattle.turning.specs.Turning.{part_bits};
 
+// The least entry that is a turn. A lower one is a zero block.
+const LEAST_TURN: i16 = 0;
+
 // Adds block j of the word, turned, to block i of the checks, where blocks are parts of 32 bytes: the part that starts
 // at byte 32j is handed on.
 fn add_part(checks: &mut [u8], word: &[u8], i: usize, j: usize, turn: usize)
@@ -35,7 +38,7 @@ fn add_entry(checks: &mut [u8], word: &[u8], size: usize, i: usize, j: usize, a:
     ensures { Adds checks.old checks.new
         (placed (size * i) size (spot size a (λ t. bit word.now (size * j + t)))) }
 {
-    if a < 0 {
+    if a < LEAST_TURN {
         return;
     }
     let turn = a as usize;
