@@ -75,7 +75,8 @@ spread_plus : (Z m : ℕ) (p : Blocks) (x y : ℕ → List ℕ) (ts : List ℕ) 
 spread_plus Z m p x y ts r =
     sums_same m _ _ (λ j l. turned_by_plus_law Z ts (x j) (y j) (p j) r)
     ∙ sums_plus m _ _
-    ∙ ap (λ (v : Bool). spread Z m p x r ⊕ v) (sym (sum_of_sums_law m (λ t j. turned_by Z (y j) (p j) ((r + t) % Z)) ts))
+    ∙ ap (λ (v : Bool). spread Z m p x r ⊕ v)
+    (sym (sum_of_sums_law m (λ t j. turned_by Z (y j) (p j) ((r + t) % Z)) ts))
 
 pub spread_alike : (Z m : ℕ) → 0 < Z → (p : Blocks) → Alike rows (block_kind Z) (Spread Z m p)
 spread_alike Z m some p =

@@ -3,7 +3,7 @@
 --   other_piece_refused   so does a piece
 --   other_finish_refused  so does a finish
 --
--- They stand apart from the law of the order, other_refused of Serving, so that an edit of that law is refused by itself.
+-- They stand apart from the law of the order, other_refused of Serving: so an edit of that law is refused by itself.
 use mathlib.Core.Path.{◌≡◌}
 use mathlib.Core.List.{List}
 use Prim.Native.Nat.{ℕ}

@@ -8,4 +8,5 @@ use Rattle.running.proofs.add_line.Given as goal
 abbrev pub invariant-loop-i : goal.invariant-loop-i
 invariant-loop-i l =
     (l.i ≤ length l.line)
-    × Adds l.initial.checks l.checks (run (l.size * l.i) (through l.size l.line (λ t. bit l.word (l.size * l.j + t))) zeros)
+    × Adds l.initial.checks l.checks
+    (run (l.size * l.i) (through l.size l.line (λ t. bit l.word (l.size * l.j + t))) zeros)
