@@ -3,16 +3,17 @@ use mathlib.Core.Path.{◌≡◌, refl}
 use Prim.Native.Nat.{◌-◌, ◌^◌}
 use Rattle.rules.specs.declared.Cause.TheVariants.{Check}
 use Rattle.rules.specs.declared.Verdict.TheVariants.{Accepted, Rejected}
-use Rattle.rules.specs.declared.Judgement.TheVariants as judgement
+use Rattle.std.specs.Prelude.{Ok}
+use Rattle.rules.specs.declared.Refusal.TheVariants as refusal
 use Rattle.answers.specs.declared.Said.TheVariants.{Judged, Written, Reordering, Held, PieceRefused}
 use Rattle.answers.specs.declared.Said.TheVariants.{PiecesRefused, Wrong}
 use Rattle.lines.specs.Texts.{text, digits_of, shown}
 use Rattle.answers.specs.Answers.{line_of}
 
-accepted : line_of (Judged (judgement.Judged Accepted)) ≡ text "accepted\n"
+accepted : line_of (Judged (Ok Accepted)) ≡ text "accepted\n"
 accepted = refl
 
-check : line_of (Judged (judgement.Judged (Rejected (Check 176 6)))) ≡ text "check 176 fails 6\n"
+check : line_of (Judged (Ok (Rejected (Check 176 6)))) ≡ text "check 176 fails 6\n"
 unfolding digits_of
 check = refl
 
@@ -27,7 +28,7 @@ held : line_of (Held 2 257) ≡ text "piece 2 held 257\n"
 unfolding digits_of
 held = refl
 
-refused : line_of (PieceRefused 3 2) ≡ text "piece 3 refusal 2\n"
+refused : line_of (PieceRefused 3 refusal.Bytes) ≡ text "piece 3 refusal 2\n"
 unfolding digits_of
 refused = refl
 

@@ -11,8 +11,8 @@ use lib.ListN.{length, take, get_or}
 use Rattle.io.specs.Counts.{IsPrefixLen}
 use Rattle.rules.specs.declared.Cause.TheVariants.{Shortened, Check, Parity, Delimiter}
 use Rattle.rules.specs.declared.Verdict.TheVariants.{Accepted, Rejected}
-use Rattle.rules.specs.declared.Judgement.{Judgement}
-use Rattle.rules.specs.declared.Judgement.TheVariants.{Judged, Refused}
+use Rattle.rules.specs.Judgements.{Judgement}
+use Rattle.rules.specs.Judgements.{Judged, Refused}
 use Rattle.lines.specs.Texts.{text}
 use Rattle.answers.specs.Answers.{judgement_line, status_of_judgement}
 

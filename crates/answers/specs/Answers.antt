@@ -8,11 +8,15 @@
 --   Says P s             the answer s is a judgement of which P holds
 --
 -- Believe this file; nothing here is proved.
-use Rattle.std.specs.Prelude.{◌≡◌, Bool, cond, ◌⊎◌, List, ◌++◌, ℕ, eqb}
+use Rattle.std.specs.Prelude.{◌≡◌, Bool, cond, ◌⊎◌, List, ◌++◌, ℕ, eqb, Result}
 use Rattle.rules.specs.declared.Cause.TheVariants.{Shortened, Check, Parity, Delimiter}
 use Rattle.rules.specs.declared.Verdict.TheVariants.{Accepted, Rejected}
-use Rattle.rules.specs.declared.Judgement.{Judgement}
-use Rattle.rules.specs.declared.Judgement.TheVariants as judgement
+use Rattle.rules.specs.Judgements.{Judgement}
+use Rattle.rules.specs.Judgements as judgement
+use Rattle.rules.specs.Judgements.{judgement as judged}
+use Rattle.rules.specs.Answers.{number}
+use Rattle.rules.specs.declared.Refusal.{Refusal}
+use Rattle.rules.specs.declared.Verdict.{Verdict}
 use Rattle.answers.specs.declared.Said.{Said}
 use Rattle.answers.specs.declared.Said.TheVariants.{Judged, Written, Refused, Reordering, Held, PieceRefused}
 use Rattle.answers.specs.declared.Said.TheVariants.{PiecesRefused, RightVector, WrongVector, WrongLine}
@@ -28,12 +32,12 @@ judgement_line (judgement.Judged (Rejected (Delimiter bit))) = fact (text "delim
 judgement_line (judgement.Refused number) = fact (text "refusal ") number
 
 abbrev pub line_of : Said → List ℕ
-line_of (Judged told) = judgement_line told
+line_of (Judged told) = judgement_line (judged told)
 line_of (Written bytes) = fact (text "written ") bytes
-line_of (Refused number) = fact (text "refusal ") number
+line_of (Refused why) = fact (text "refusal ") (number why)
 line_of Reordering = text "reordering" ++ new_line
 line_of (Held piece bits) = facts (text "piece ") piece (text " held ") bits
-line_of (PieceRefused piece number) = facts (text "piece ") piece (text " refusal ") number
+line_of (PieceRefused piece why) = facts (text "piece ") piece (text " refusal ") (number why)
 line_of (PiecesRefused count) = fact (text "refused pieces ") count
 line_of (RightVector number) = fact (text "right vector ") number
 line_of (WrongVector number) = fact (text "wrong vector ") number
@@ -48,12 +52,12 @@ status_of_judgement (judgement.Judged (Rejected cause)) = 1
 status_of_judgement (judgement.Refused number) = 2
 
 abbrev pub status_of : Said → ℕ
-status_of (Judged told) = status_of_judgement told
+status_of (Judged told) = status_of_judgement (judged told)
 status_of (Written bytes) = 0
-status_of (Refused number) = 2
+status_of (Refused why) = 2
 status_of Reordering = 0
 status_of (Held piece bits) = 0
-status_of (PieceRefused piece number) = 2
+status_of (PieceRefused piece why) = 2
 status_of (PiecesRefused count) = 2
 status_of (RightVector number) = 0
 status_of (WrongVector number) = 1
@@ -75,4 +79,4 @@ abbrev pub Told : ℕ → ℕ → Type 0
 Told s r = (r ≡ s) ⊎ (r ≡ lost)
 
 abbrev pub Says : (Judgement → Type 0) → Said → Type 0
-Says P s = (told : Judgement) × P told × (s ≡ Judged told)
+Says P s = (told : Result Verdict Refusal) × P (judged told) × (s ≡ Judged told)

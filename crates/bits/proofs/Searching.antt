@@ -1,14 +1,13 @@
 -- Laws of searches by numbers: the lowest 1 of bits f, of which 64 k are passed.
 --
 --   Clear f n          the first n bits of f are 0
---   FirstOne f b r     r is the lowest place below b at which f is 1, or b where there is none
---   clear_none         no bits
+--   FirstOne f b r     r is the lowest place at which f is 1, and below b
 --   clear_more         64 more, where their number is 0
 --   one_found          the lowest 1 of the next number that is not 0
 --   one_left           the lowest 1 of the number at the end, of which b % 64 bits count
 --   none_left          none of them is 1
---   first_set          in bits of bytes, from a place on
---   first_different    of a sum of two: where they first differ
+--   first_set          in bits of bytes, from a place on; none_set where there is none
+--   first_different    of a sum of two: where they first differ; none_different where they do not
 use mathlib.Core.Path.{◌≡◌, sym, ap, ◌∙◌}
 use mathlib.Core.List.{List}
 use Prim.Native.Nat.{ℕ, ◌+◌, ◌-◌, ◌*◌, ◌/◌, ◌%◌, ◌^◌, ◌≤◌, ◌<◌}
@@ -26,12 +25,9 @@ abbrev pub Clear : (ℕ → ℕ) → ℕ → Type 0
 Clear f n = (k : ℕ) → k < n → f k ≡ 0
 
 pub record FirstOne (f : ℕ → ℕ) (b r : ℕ) : Type 0 where
-  pub high : r ≤ b
+  pub below : r < b
   pub clear : Clear f r
-  pub set : r < b → f r ≡ 1
-
-pub clear_none : (f : ℕ → ℕ) → Clear f 0
-clear_none f k h = absurd (omega arith)
+  pub set : f r ≡ 1
 
 module _ (f : ℕ → ℕ) (k : ℕ) {x : ℕ} (c : Clear f (64 * k)) (h : Holds x (λ i. f (64 * k + i))) where
   -- a place of the number is one of f
@@ -54,7 +50,7 @@ module _ (f : ℕ → ℕ) (k : ℕ) {x : ℕ} (c : Clear f (64 * k)) (h : Holds
   pub one_found : (b : ℕ) {r : ℕ} → x < 2 ^ 64 → (x ≡ 0 → ⊥) → LowestOne x r → 64 * k + 64 ≤ b
       → FirstOne f b (64 * k + r)
   one_found b {r} small some o fits = elim (dec_lt r 64) [
-    | yes l ↦ record { high = omega arith; clear = below o; set = λ q. sym (h.each r l) ∙ o.set l }
+    | yes l ↦ record { below = omega arith; clear = below o; set = sym (h.each r l) ∙ o.set l }
     | no l ↦ absurd (some (numbers_same 64 x 0 small (lit< tt) (λ t q. o.clear t (omega arith) ∙ rw zero-div)))
   ]
 
@@ -67,28 +63,47 @@ module _ (f : ℕ → ℕ) (b : ℕ) {k x r : ℕ} (passed : k ≡ b / 64) (c : 
 
   pub one_left : r < b % 64 → FirstOne f b (64 * (b / 64) + r)
   one_left l = record {
-    high = omega arith;
+    below = omega arith;
     clear = before;
-    set = λ q. sym (h.each r (omega arith)) ∙ o.set (omega arith);
+    set = sym (h.each r (omega arith)) ∙ o.set (omega arith);
   }
 
-  pub none_left : b % 64 ≤ r → FirstOne f b b
-  none_left l = record { high = omega arith; clear = λ n q. before n (omega arith); set = λ q. absurd (omega arith) }
+  pub none_left : b % 64 ≤ r → Clear f b
+  none_left l n q = before n (omega arith)
 
-pub first_set : (s : List ℕ) (from to r n : ℕ) → from ≤ to → n ≡ from + r
-    → FirstOne (λ n. bit s (from + n)) (to - from) r
-    → FirstSet s from to n
-first_set s from to r n l e f = record {
-  low = omega arith;
-  high = omega (arith, f.high);
-  clear = λ k q m. let back : from + (k - from) ≡ k = omega arith in rw back at (f.clear (k - from) (omega arith));
-  set = λ h. rw e (f.set (omega arith));
-}
+-- in bits of bytes, from a place on
+module _ (s : List ℕ) (from to : ℕ) (l : from ≤ to) where
+  back : (n : ℕ) → Clear (λ n. bit s (from + n)) n → (k : ℕ) → from ≤ k → k < from + n → bit s k ≡ 0
+  back n c k q m = let e : from + (k - from) ≡ k = omega arith in rw e at (c (k - from) (omega arith))
 
-pub first_different : (x y : ℕ → ℕ) (b r : ℕ) → ((n : ℕ) → x n < 2) → ((n : ℕ) → y n < 2) → FirstOne (sum x y) b r
-    → FirstDifference x y b r
-first_different x y b r hx hy f = record {
-  high = f.high;
-  same = λ n l. omega (arith, f.clear n l, hx n, hy n);
-  differs = λ l e. omega (arith, f.set l, hx r, hy r);
-}
+  pub first_set : (r n : ℕ) → n ≡ from + r → FirstOne (λ n. bit s (from + n)) (to - from) r → FirstSet s from to n
+  first_set r n e f = record {
+    low = omega arith;
+    high = omega (arith, f.below);
+    clear = λ k q m. back r f.clear k q (omega arith);
+    set = λ h. rw e f.set;
+  }
+
+  pub none_set : Clear (λ n. bit s (from + n)) (to - from) → FirstSet s from to to
+  none_set c = record {
+    low = l;
+    high = omega arith;
+    clear = λ k q m. back (to - from) c k q (omega arith);
+    set = λ h. absurd (omega arith);
+  }
+
+-- in the sum of two
+module _ (x y : ℕ → ℕ) (hx : (n : ℕ) → x n < 2) (hy : (n : ℕ) → y n < 2) (b : ℕ) where
+  pub first_different : (r : ℕ) → FirstOne (sum x y) b r → FirstDifference x y b r
+  first_different r f = record {
+    high = omega (arith, f.below);
+    same = λ n l. omega (arith, f.clear n l, hx n, hy n);
+    differs = λ l e. omega (arith, f.set, hx r, hy r);
+  }
+
+  pub none_different : Clear (sum x y) b → FirstDifference x y b b
+  none_different c = record {
+    high = omega arith;
+    same = λ n l. omega (arith, c n l, hx n, hy n);
+    differs = λ l e. absurd (omega arith);
+  }

@@ -1,10 +1,12 @@
 // Bits in bytes: read, added, moved in runs, cleared, copied, searched and counted.
 // Bit n is in byte n / 8, with weight 2 to the power n mod 8. A slice may have more bits than a usize can count.
-// Bits move by numbers of 64, and those that are left at the end by one number more.
+// Bits move by numbers of 64, and those that are left at the end by one number more. Loops go by the number's count, as
+// a number may stand at any place of each run.
 // Its functions serve the crates above, which show what they require; no user calls them.
 #![tactic(auto)]
 
-ghost use Rattle.std.specs.Prelude.{◌≡◌, ◌++◌, ℕ, ◌+◌, ◌*◌, ◌/◌, ◌%◌, ◌^◌, ◌≤◌, ◌<◌, length, drop, replicate};
+ghost use Rattle.std.specs.Prelude.{◌≡◌, ◌++◌, ℕ, ◌+◌, ◌*◌, ◌/◌, ◌%◌, ◌^◌, ◌≤◌, ◌<◌, length};
+ghost use Rattle.std.specs.Prelude.{drop, replicate, unwrap_or, IfSome};
 ghost use Rattle.rules.specs.Bits.{bit, need, placed, Adds};
 ghost use Rattle.rules.specs.Matrix.{total};
 ghost use Rattle.bits.specs.Searches.{FirstSet, FirstDifference};
@@ -13,7 +15,7 @@ ghost use Rattle.bits.specs.Searches.{FirstSet, FirstDifference};
 pub fn needed(bits: usize) -> usize
     ensures { result ≡ need bits }
 {
-    bits / 8 + (bits % 8 + 7) / 8
+    bits.div_ceil(8)
 }
 
 // The bit at a place.
@@ -58,12 +60,11 @@ pub fn clear(s: &mut [u8], count: usize)
     requires { count ≤ length s.old }
     ensures { s.new ≡ replicate count 0 ++ drop count s.old }
 {
-    for i in 0..count {
-        s[i] = 0;
-    }
+    s[..count].fill(0);
 }
 
-// Makes all of `to` equal to `from`.
+// Makes all of `to` equal to `from`. By a loop, which compiles to memcpy: where both slices come from C, the library's
+// copy_from_slice compiles to memmove, which the header does not ask of a host.
 pub fn copy(to: &mut [u8], from: &[u8])
     requires { length to.old ≡ length from.now }
     ensures { to.new ≡ from.now }
@@ -73,49 +74,58 @@ pub fn copy(to: &mut [u8], from: &[u8])
     }
 }
 
-// The lowest place that is 1, of those from `from` on and below `to`; `to` where there is none.
-pub fn first_set(s: &[u8], from: usize, to: usize) -> usize
+// The lowest place that is 1, of those from `from` on and below `to`.
+pub fn first_set(s: &[u8], from: usize, to: usize) -> Option<usize>
     requires { (from ≤ to) × (to ≤ 8 * length s.now) }
-    ensures { FirstSet s.now from to result }
+    ensures place { FirstSet s.now from to (unwrap_or result to) }
+    ensures below { IfSome result (λ place. place < to) }
 {
     let whole = (to - from) / 64;
     for k in 0..whole {
         let number = numbers::number_at(s, from / 8 + 8 * k, from % 8);
         if number != 0 {
-            return from + 64 * k + numbers::lowest_one(number);
+            return Some(from + 64 * k + numbers::lowest_one(number));
         }
     }
     let place = numbers::lowest_one(numbers::rest_at(s, from / 8 + 8 * whole, from % 8));
     if place < (to - from) % 64 {
-        return from + 64 * whole + place;
+        return Some(from + 64 * whole + place);
     }
-    to
+    None
 }
 
-// The lowest of `count` places at which the bits of `s` from `at` on differ from those of `other` from `start` on;
-// `count` where they are alike.
-pub fn first_difference(s: &[u8], at: usize, other: &[u8], start: usize, count: usize) -> usize
+// The lowest of `count` places at which the bits of `s` from `at` on differ from those of `other` from `start` on. It
+// is `first_set` of a sum that stands nowhere; the laws of both are the same.
+pub fn first_difference(
+    s: &[u8],
+    at: usize,
+    other: &[u8],
+    start: usize,
+    count: usize,
+) -> Option<usize>
     requires { (at + count ≤ 8 * length s.now) × (start + count ≤ 8 * length other.now) }
-    ensures { FirstDifference (λ n. bit s.now (at + n)) (λ n. bit other.now (start + n)) count result }
+    ensures place { FirstDifference (λ n. bit s.now (at + n)) (λ n. bit other.now (start + n)) count
+        (unwrap_or result count) }
+    ensures below { IfSome result (λ place. place < count) }
 {
     let whole = count / 64;
     for k in 0..whole {
         let number = numbers::number_at(s, at / 8 + 8 * k, at % 8)
             ^ numbers::number_at(other, start / 8 + 8 * k, start % 8);
         if number != 0 {
-            return 64 * k + numbers::lowest_one(number);
+            return Some(64 * k + numbers::lowest_one(number));
         }
     }
     let number = numbers::rest_at(s, at / 8 + 8 * whole, at % 8)
         ^ numbers::rest_at(other, start / 8 + 8 * whole, start % 8);
     let place = numbers::lowest_one(number);
     if place < count % 64 {
-        return 64 * whole + place;
+        return Some(64 * whole + place);
     }
-    count
+    None
 }
 
-// How many bits of all of `s` are 1.
+// How many bits of all of `s` are 1. By a loop: a `sum` over numbers leaves open that it fits.
 pub fn count_ones(s: &[u8]) -> usize
     requires { 8 * length s.now < 2 ^ 64 }
     ensures { result ≡ total (8 * length s.now) (bit s.now) }

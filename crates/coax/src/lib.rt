@@ -7,11 +7,13 @@ ghost use Rattle.rules.specs.Bits.{bit, need, zeros, run, placed, Packed, Adds};
 ghost use Rattle.rules.specs.Matrix.{places, checks, places_of_payload, check};
 ghost use Rattle.rules.specs.Verdicts.{WordVerdict};
 ghost use Rattle.rules.specs.Streams.{fresh};
+ghost use Rattle.rules.specs.Answers.{answer, outcome};
+ghost use Rattle.rules.specs.Judgements.{judgement};
 ghost use Rattle.rules.specs.Promises.{Completion, LineWritten, TailWritten, PieceTaken};
 ghost use Rattle.rules.specs.Coax.{coax_code, coax_number, coax_format, CoaxEncodeAsks, CoaxWordAsks};
 ghost use Rattle.rules.specs.Coax.{CoaxEncoded, CoaxCompleted, CoaxChecked, CoaxFinished};
 
-use rules::{Answer, Cause, CoaxCode, Judgement, Outcome, Stream, Verdict, coax};
+use rules::{Cause, CoaxCode, Refusal, Stream, Verdict, coax};
 
 // The checks of a payload alone.
 fn payload_checks(code: CoaxCode, payload: &[u8]) -> [u8; coax::PARITY_BYTES]
@@ -43,15 +45,12 @@ fn write(code: CoaxCode, count: usize, payload: &[u8], word: &mut [u8])
 }
 
 // Encodes a payload of so many bits.
-pub fn encode(code: CoaxCode, count: usize, payload: &[u8], word: &mut [u8]) -> Answer
-    ensures { CoaxEncoded code count payload.now word.old result word.new }
+pub fn encode(code: CoaxCode, count: usize, payload: &[u8], word: &mut [u8]) -> Result<(), Refusal>
+    ensures { CoaxEncoded code count payload.now word.old (answer result) word.new }
 {
-    let refusal = refusals::coax::encode(code, count, payload, word.len());
-    if refusal != 0 {
-        return Answer::Refused(refusal);
-    }
+    refusals::coax::encode(code, count, payload, word.len())?;
     write(code, count, payload, word);
-    Answer::Done
+    Ok(())
 }
 
 // Writes the parity of a word: only the part after the payload's bytes is lent to be written.
@@ -65,56 +64,34 @@ fn write_parity(code: CoaxCode, word: &mut [u8])
 }
 
 // Completes a word with so many payload bits.
-pub fn complete(code: CoaxCode, count: usize, word: &mut [u8]) -> Answer
-    ensures { CoaxCompleted code count word.old result word.new }
+pub fn complete(code: CoaxCode, count: usize, word: &mut [u8]) -> Result<(), Refusal>
+    ensures { CoaxCompleted code count word.old (answer result) word.new }
 {
-    let refusal = refusals::coax::word(code, count, word);
-    if refusal != 0 {
-        return Answer::Refused(refusal);
-    }
+    refusals::coax::word(code, count, word)?;
     write_parity(code, word);
-    Answer::Done
+    Ok(())
 }
 
 // The verdict on a word. The running checks of all blocks are the checks themselves: their ones are the failing rows.
-fn judge(code: CoaxCode, count: usize, word: &[u8]) -> Verdict
-    requires { CoaxWordAsks (coax_format code) count word.now }
-    ensures { WordVerdict (coax_format code) count (bit word.now) result }
+fn judge(code: CoaxCode, payload: usize, word: &[u8]) -> Verdict
+    requires { CoaxWordAsks (coax_format code) payload word.now }
+    ensures { WordVerdict (coax_format code) payload (bit word.now) result }
 {
     let mut sums = [0u8; coax::PARITY_BYTES];
     running::coax::add_blocks(code, &mut sums, word, 0, coax::columns(code));
-    let failing = bits::count_ones(&sums);
-    if failing == 0 {
+    let Some(row) = bits::first_set(&sums, 0, coax::checks(code)) else {
         return Verdict::Accepted;
-    }
-    let row = bits::first_set(&sums, 0, coax::checks(code));
-    Verdict::Rejected(Cause::Check {
-        row: row,
-        count: failing,
-    })
+    };
+    let count = bits::count_ones(&sums);
+    Verdict::Rejected(Cause::Check { row, count })
 }
 
 // Checks a word with so many payload bits.
-pub fn check(code: CoaxCode, count: usize, word: &[u8]) -> Judgement
-    ensures { CoaxChecked code count word.now result }
+pub fn check(code: CoaxCode, count: usize, word: &[u8]) -> Result<Verdict, Refusal>
+    ensures { CoaxChecked code count word.now (judgement result) }
 {
-    let refusal = refusals::coax::word(code, count, word);
-    if refusal != 0 {
-        return Judgement::Refused(refusal);
-    }
-    Judgement::Judged(judge(code, count, word))
-}
-
-// Adds a piece's bits, which stand at the places from `held` on, and returns how many bits are then held.
-fn feed(code: CoaxCode, sums: &mut [u8], held: usize, count: usize, bytes: &[u8]) -> usize
-    requires { (need (checks (coax_code code)) ≤ length sums.old) × (held + count ≤ places_of_payload (coax_code code))
-        × Packed count bytes.now }
-    ensures { (result ≡ held + count)
-        × Adds sums.old sums.new
-        (λ n. check (coax_code code) n (placed held count (bit bytes.now))) }
-{
-    running::coax::add_piece(code, sums, held, count, bytes);
-    held + count
+    refusals::coax::word(code, count, word)?;
+    Ok(judge(code, count, word))
 }
 
 // A fresh stream of a code.
@@ -125,27 +102,13 @@ pub fn begin(code: CoaxCode) -> Stream
 }
 
 // Takes a piece of so many bits.
-pub fn piece(code: CoaxCode, stream: Stream, count: usize, bytes: &[u8]) -> Outcome
-    ensures { PieceTaken (coax_format code) count bytes.now stream result }
+pub fn piece(code: CoaxCode, stream: &mut Stream, count: usize, bytes: &[u8]) -> Result<(), Refusal>
+    ensures { PieceTaken (coax_format code) count bytes.now stream.old (outcome result stream.new) }
 {
-    let held = stream.held;
-    let refusal = stream_refusals::piece_alone(stream, coax::limits(code), count, bytes);
-    if refusal != 0 {
-        return Outcome {
-            answer: Answer::Refused(refusal),
-            stream: stream,
-        };
-    }
-    let mut checks = stream.checks;
-    let after = feed(code, &mut checks, held, count, bytes);
-    Outcome {
-        answer: Answer::Done,
-        stream: Stream {
-            number: stream.number,
-            held: after,
-            checks: checks,
-        },
-    }
+    stream_refusals::piece_alone(stream, coax::limits(code), count, bytes)?;
+    running::coax::add_piece(code, &mut stream.checks, stream.held, count, bytes);
+    stream.held += count;
+    Ok(())
 }
 
 // Writes the parity whose own checks are the running checks, and nothing after it.
@@ -157,22 +120,12 @@ fn write_tail(code: CoaxCode, sums: &[u8], tail: &mut [u8])
     parity::coax::solve(code, sums, &mut tail[..end]);
 }
 
-// Finishes: writes the parity, and hands back a fresh stream.
-pub fn finish(code: CoaxCode, stream: Stream, tail: &mut [u8]) -> Outcome
-    ensures { CoaxFinished code stream tail.old result tail.new }
+// Finishes: writes the parity, and leaves a fresh stream.
+pub fn finish(code: CoaxCode, stream: &mut Stream, tail: &mut [u8]) -> Result<(), Refusal>
+    ensures { CoaxFinished code stream.old tail.old (outcome result stream.new) tail.new }
 {
-    let refusal = stream_refusals::coax::finish(code, stream, tail.len());
-    if refusal != 0 {
-        return Outcome {
-            answer: Answer::Refused(refusal),
-            stream,
-        };
-    }
-    let checks = stream.checks;
-    write_tail(code, &checks, tail);
-    let next = begin(code);
-    Outcome {
-        answer: Answer::Done,
-        stream: next,
-    }
+    stream_refusals::coax::finish(code, stream, tail.len())?;
+    write_tail(code, &stream.checks, tail);
+    *stream = begin(code);
+    Ok(())
 }

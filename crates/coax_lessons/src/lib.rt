@@ -2,22 +2,21 @@
 // the tables of source document 001 and from the orders of refusals.
 #![tactic(auto)]
 
-use codes::Code;
-use lessons::expected::{is_check, is_done, is_judged_refused, is_refused, lesson, set};
+use codes::{Code, Served};
+use lessons::expected::{fails, set};
 use lessons::places;
 use lessons::tally::Tally;
-use rules::{CoaxCode, Stream};
+use rules::{CoaxCode, Refusal, Stream};
 
 // Of a word with the bit at a place alone as many checks fail as these, and the lowest is the first of these.
 fn is_checked(code: CoaxCode, place: usize, rows: &[usize]) -> bool {
-    if rows.len() == 0 {
+    let [lowest, ..] = rows else {
         return false;
-    }
+    };
     let mut word = [0u8; rules::coax::WORD_BYTES];
     set(&mut word, place);
-    let n = codes::bytes_of(rules::coax::places(code), &word);
-    let judgement = coax::check(code, rules::coax::payload_places(code), &word[..n]);
-    is_check(judgement, rows[0], rows.len())
+    let word = codes::bytes_of(rules::coax::places(code), &word);
+    coax::check(code, rules::coax::payload_places(code), word) == fails(*lowest, rows.len())
 }
 
 // A place is in these checks, and in no other.
@@ -25,103 +24,89 @@ fn is_place(code: CoaxCode, place: usize, rows: &[usize]) -> bool {
     if !is_checked(code, place, rows) {
         return false;
     }
+    let served = Served {
+        code: Code::Coax(code),
+        lists: b"",
+    };
     let bits = rules::coax::payload_places(code);
     if place < bits {
-        return places::payload_place(Code::Coax(code), b"", bits, place, rows);
+        return places::payload_place(served, bits, place, rows);
     }
-    places::parity_place(Code::Coax(code), b"", bits, place - bits, rows)
+    places::parity_place(served, bits, place - bits, rows)
 }
 
 // The word of a payload that is all 0 is all 0, and the bytes after it stay.
 fn is_zero(code: CoaxCode) -> bool {
     let bits = rules::coax::payload_places(code);
     let payload = [0u8; rules::coax::PAYLOAD_BYTES];
-    let n = codes::bytes_of(bits, &payload);
     let mut word = [255u8; rules::coax::WORD_BYTES];
-    let answer = coax::encode(code, bits, &payload[..n], &mut word);
-    if !is_done(answer) {
-        return false;
-    }
+    let answer = coax::encode(code, bits, codes::bytes_of(bits, &payload), &mut word);
     let mut expected = [255u8; rules::coax::WORD_BYTES];
     bits::clear(
         &mut expected,
-        codes::bytes_of(rules::coax::places(code), &word),
+        codes::bytes_of(rules::coax::places(code), &word).len(),
     );
-    check::same(&word, &expected)
+    answer.is_ok() && word == expected
 }
 
 // The finish of a stream that holds so many bits is refused by 1.
 fn is_finish_refused(code: CoaxCode, count: usize) -> bool {
-    let held = Stream {
-        number: rules::coax::number(code),
+    let mut stream = Stream {
         held: count,
-        checks: [0u8; rules::STREAM_BYTES],
+        ..coax::begin(code)
     };
     let mut tail = [0u8; rules::coax::PARITY_BYTES];
-    let outcome = coax::finish(code, held, &mut tail);
-    let answer = outcome.answer;
-    is_refused(answer, 1)
+    coax::finish(code, &mut stream, &mut tail) == Err(Refusal::Count)
 }
 
 // Every operation that takes a count, and the finish, refuses this one by 1.
 fn is_bad_count(code: CoaxCode, count: usize) -> bool {
     let payload = [0u8; rules::coax::PAYLOAD_BYTES];
-    let n = codes::bytes_of(count, &payload);
+    let payload = codes::bytes_of(count, &payload);
     let mut word = [0u8; rules::coax::WORD_BYTES];
-    if !is_refused(coax::encode(code, count, &payload[..n], &mut word), 1) {
-        return false;
-    }
-    let m = codes::bytes_of(rules::coax::places(code), &word);
-    if !is_judged_refused(coax::check(code, count, &word[..m]), 1) {
-        return false;
-    }
-    if !is_refused(coax::complete(code, count, &mut word[..m]), 1) {
-        return false;
-    }
-    is_finish_refused(code, count)
+    let n = codes::bytes_of(rules::coax::places(code), &word).len();
+    coax::encode(code, count, payload, &mut word) == Err(Refusal::Count)
+        && coax::check(code, count, &word[..n]) == Err(Refusal::Count)
+        && coax::complete(code, count, &mut word[..n]) == Err(Refusal::Count)
+        && is_finish_refused(code, count)
 }
 
 // A piece and the finish refuse a fresh stream of another code by 12.
 fn is_other_code(code: CoaxCode, other: Code) -> bool {
-    let outcome = coax::piece(code, codes::begin(other), 0, b"");
-    let answer = outcome.answer;
-    if !is_refused(answer, 12) {
-        return false;
-    }
+    let mut stream = other.begin();
     let mut tail = [0u8; rules::coax::PARITY_BYTES];
-    let finished = coax::finish(code, codes::begin(other), &mut tail);
-    let told = finished.answer;
-    is_refused(told, 12)
+    coax::piece(code, &mut stream, 0, b"") == Err(Refusal::OtherCode)
+        && coax::finish(code, &mut stream, &mut tail) == Err(Refusal::OtherCode)
 }
 
-fn long(tally: Tally) -> Tally {
-    let first = [267usize, 446, 946, 1547];
-    let parity = [217usize, 614];
-    let last = [1799usize];
+// A code's lessons are a table as they stand, a line each: what must hold, and its name. As fields of a table the names
+// would need a type that keeps them short enough for their lines.
+fn long(tally: &mut Tally) {
     let code = CoaxCode::Long;
-    let a = lesson(tally, is_place(code, 0, &first), b"16200 place 0");
-    let b = lesson(a, is_place(code, 14400, &parity), b"16200 place 14400");
-    let c = lesson(b, is_place(code, 16199, &last), b"16200 place 16199");
-    let d = lesson(c, is_zero(code), b"16200 all 0");
-    let e = lesson(d, is_bad_count(code, 14399), b"16200 K 14399");
-    lesson(e, is_other_code(code, Code::Fibre), b"16200 fibre stream")
+    tally.lesson(is_place(code, 0, &[267, 446, 946, 1547]), b"16200 place 0");
+    tally.lesson(is_place(code, 14400, &[217, 614]), b"16200 place 14400");
+    tally.lesson(is_place(code, 16199, &[1799]), b"16200 place 16199");
+    tally.lesson(is_zero(code), b"16200 all 0");
+    tally.lesson(is_bad_count(code, 14399), b"16200 K 14399");
+    tally.lesson(is_other_code(code, Code::Fibre), b"16200 fibre stream");
 }
 
-fn short(tally: Tally) -> Tally {
-    let first = [38usize, 306, 477, 692, 848];
-    let parity = [158usize, 259];
-    let last = [880usize];
+fn short(tally: &mut Tally) {
     let code = CoaxCode::Short;
-    let a = lesson(tally, is_place(code, 0, &first), b"5940 place 0");
-    let b = lesson(a, is_place(code, 5040, &parity), b"5940 place 5040");
-    let c = lesson(b, is_place(code, 5939, &last), b"5940 place 5939");
-    let d = lesson(c, is_zero(code), b"5940 all 0");
-    let e = lesson(d, is_bad_count(code, 5039), b"5940 K 5039");
+    tally.lesson(
+        is_place(code, 0, &[38, 306, 477, 692, 848]),
+        b"5940 place 0",
+    );
+    tally.lesson(is_place(code, 5040, &[158, 259]), b"5940 place 5040");
+    tally.lesson(is_place(code, 5939, &[880]), b"5940 place 5939");
+    tally.lesson(is_zero(code), b"5940 all 0");
+    tally.lesson(is_bad_count(code, 5039), b"5940 K 5039");
     let long = Code::Coax(CoaxCode::Long);
-    lesson(e, is_other_code(code, long), b"5940 16200 stream")
+    tally.lesson(is_other_code(code, long), b"5940 16200 stream");
 }
 
 // All lessons, a line each.
-pub fn run(tally: Tally) -> Tally {
-    short(long(tally))
+pub fn run(tally: &mut Tally) {
+    long(tally);
+    short(tally);
 }

@@ -3,15 +3,14 @@
 --   joined a t b u    what the room has after each list was put at its place: a over t's place, then b, then u
 --   joined_is         it begins with a, then b
 --   plain_joined      so two lists that change nothing make such a pair
---   by_cut            what holds of the two parts that a pair is cut into holds of its lists
 --   pair_same         one answer only fits a pair
-use mathlib.Core.Path.{◌≡◌, sym, subst, ◌∙◌}
+use mathlib.Core.Path.{◌≡◌, sym}
 use mathlib.Core.Logic.{inl, inr}
 use mathlib.Core.List.{List, ◌++◌, append_assoc}
-use Prim.Native.Nat.{ℕ, ◌-◌, ◌*◌}
+use Prim.Native.Nat.{ℕ, ◌*◌}
 use native.Mathlib.Omega.{arith}
-use lib.ListN.{length, take, drop, length-append, length-drop}
-use lib.Seq.{take_at, drop_at, take_all}
+use lib.ListN.{length, take, length-append}
+use lib.Seq.{take_at, drop_at}
 use Rattle.io.specs.Counts.{IsPrefixLen}
 use Rattle.io.proofs.Counting.{prefix_len_of_le}
 use Rattle.rules.specs.Matrix.{checks, places_of_payload}
@@ -19,7 +18,7 @@ use Rattle.rules.specs.Table.{fibre}
 use Rattle.rules.specs.Lists.{Plain}
 use Rattle.laws.proofs.Lent.{not_bad}
 use Rattle.answers.specs.declared.Said.{Said}
-use Rattle.codes.specs.Codes.{first_in, second_in, pair_bytes, PlainPair, CutAt, PairSaid}
+use Rattle.codes.specs.Codes.{pair_bytes, PlainPair, PairSaid}
 
 -- the bytes of the first list
 abbrev front : ℕ
@@ -43,16 +42,6 @@ plain_joined a t b u p q =
             second = rw (drop_at a b front p.bytes) q;
           }),
     )
-
--- all that is left after the cut
-rest_is : (v : List ℕ) (n : ℕ) → take (length v - n) (drop n v) ≡ drop n v
-rest_is v n = take_all (length v - n) (drop n v) (simp length-drop (omega arith))
-
-pub by_cut : (P : List ℕ → List ℕ → Type 0) (v : List ℕ) (n : ℕ) → CutAt v n
-    → P (take n v) (take (length v - n) (drop n v)) → P (first_in v) (second_in v)
-by_cut P v n cut h =
-    subst (λ (b : List ℕ). P (first_in v) b) (rest_is v n ∙ cut.second)
-    (subst (λ (a : List ℕ). P a (take (length v - n) (drop n v))) cut.first h)
 
 pub pair_same : (v : List ℕ) (s s' : Said) → PairSaid v s → PairSaid v s' → s ≡ s'
 pair_same v s s' (inl (e, a, b)) (inl (e', a', b')) = cc

@@ -17,7 +17,7 @@
 --   PairSaid v s       what is answered of a pair: that both lists are reorderings of their places, or refusal 16
 --
 -- Nothing here is proved.
-use Rattle.std.specs.Prelude.{◌≡◌, ◌⊎◌, List, ℕ, ◌+◌, ◌*◌, take, drop}
+use Rattle.std.specs.Prelude.{◌≡◌, ◌⊎◌, List, Option, Some, None, ℕ, ◌+◌, ◌*◌, take, drop}
 use Rattle.rules.specs.Matrix.{checks, places_of_payload}
 use Rattle.rules.specs.Table.{fibre}
 use Rattle.rules.specs.Lists.{Listed, Plain}
@@ -25,16 +25,15 @@ use Rattle.rules.specs.Formats.{Format, fibre_format, fibre_kept}
 use Rattle.rules.specs.Refusals.{BadList}
 use Rattle.rules.specs.Promises.{Completed, Encoded, PieceTaken, Finished}
 use Rattle.rules.specs.Coax.{coax_number, coax_format, CoaxEncoded, CoaxCompleted, CoaxFinished}
-use Rattle.rules.specs.declared.Answer.{Answer}
+use Rattle.rules.specs.Answers.{Answer}
+use Rattle.rules.specs.declared.Refusal.TheVariants as refusal
 use Rattle.rules.specs.declared.Stream.{Stream}
-use Rattle.rules.specs.declared.Outcome.{Outcome}
+use Rattle.rules.specs.Answers.{Outcome}
 use Rattle.rules.specs.declared.CoaxCode.{CoaxCode}
 use Rattle.rules.specs.declared.CoaxCode.TheVariants.{Long, Short}
 use Rattle.lines.specs.Texts.{text}
 use Rattle.answers.specs.declared.Said.{Said}
 use Rattle.answers.specs.declared.Said.TheVariants.{Refused, Reordering}
-use Rattle.codes.specs.declared.Named.{Named}
-use Rattle.codes.specs.declared.Named.TheVariants.{Is, Nothing}
 use Rattle.codes.specs.declared.Code.{Code}
 use Rattle.codes.specs.declared.Code.TheVariants.{Fibre, Coax}
 
@@ -42,9 +41,9 @@ abbrev pub name_of : CoaxCode → List ℕ
 name_of Long = text "16200"
 name_of Short = text "5940"
 
-abbrev pub NamedBy : List ℕ → Named → Type 0
-NamedBy s (Is k) = s ≡ name_of k
-NamedBy s Nothing = (k : CoaxCode) → s ≡ name_of k → ⊥
+abbrev pub NamedBy : List ℕ → Option CoaxCode → Type 0
+NamedBy s (Some k) = s ≡ name_of k
+NamedBy s None = (k : CoaxCode) → s ≡ name_of k → ⊥
 
 abbrev pub number_of : Code → ℕ
 number_of Fibre = fibre_kept.number
@@ -89,4 +88,5 @@ pub record CutAt (v : List ℕ) (n : ℕ) : Type 0 where
 abbrev pub PairSaid : List ℕ → Said → Type 0
 PairSaid v s =
     ((s ≡ Reordering) × Listed (places_of_payload fibre) (first_in v) × Listed (checks fibre) (second_in v))
-    ⊎ ((s ≡ Refused 16) × (BadList (places_of_payload fibre) (first_in v) ⊎ BadList (checks fibre) (second_in v)))
+    ⊎ ((s ≡ Refused refusal.Lists)
+    × (BadList (places_of_payload fibre) (first_in v) ⊎ BadList (checks fibre) (second_in v)))

@@ -14,8 +14,11 @@ use Rattle.rules.specs.Promises.{WordChecked, LineChecked}
 use Rattle.rules.specs.Coax.{CoaxChecked}
 use Rattle.rules.specs.declared.CoaxCode.{CoaxCode}
 use Rattle.rules.specs.declared.Verdict.TheVariants.{Accepted}
-use Rattle.rules.specs.declared.Judgement.{Judgement}
-use Rattle.rules.specs.declared.Judgement.TheVariants.{Judged}
+use Rattle.rules.specs.declared.Verdict.{Verdict}
+use Rattle.rules.specs.declared.Refusal.{Refusal}
+use Rattle.rules.specs.Judgements.{Judgement, Judged, judgement}
+use Rattle.std.specs.Prelude.{Result, Ok}
+use Rattle.laws.proofs.Results.{judgement_single}
 use Rattle.parity.proofs.Single.{fibre_one}
 use Rattle.theorems.specs.Exactly.{Exactly}
 use Rattle.theorems.specs.Accepted.{GoodWord, GoodLine, GoodCoax}
@@ -33,46 +36,51 @@ use Rattle.answers.proofs.Same.{accepted_alone, accepted_status}
 -- Seen s: what is seen of an answer, which of judgements is seen of the accepted one alone
 shown : (P : Judgement → Type 0) (Good : Type 0) (Seen : Said → Type 0)
     → ((j : Judgement) → P j → Exactly (j ≡ Judged Accepted) Good)
-    → ((j : Judgement) → Seen (said.Judged j) → j ≡ Judged Accepted) → Seen (said.Judged (Judged Accepted))
-    → (s : Said) → Says P s → Exactly (Seen s) Good
-shown P Good Seen judged alone accepted s h = (
-  λ seen. (judged h.0 h.1).0 (alone h.0 (subst Seen h.2 seen)),
-  λ good. subst Seen (sym (h.2 ∙ ap said.Judged ((judged h.0 h.1).1 good))) accepted,
-)
+    → ((x : Result Verdict Refusal) → Seen (said.Judged x) → judgement x ≡ Judged Accepted)
+    → Seen (said.Judged (Ok Accepted)) → (s : Said) → Says P s → Exactly (Seen s) Good
+shown P Good Seen judged alone accepted s h =
+    let fits = judged (judgement h.0) h.1 in (
+      λ seen. fits.0 (alone h.0 (subst Seen h.2 seen)),
+      λ good.
+          let only = judgement_single h.0 (Ok Accepted) (fits.1 good) in
+          subst Seen (sym (h.2 ∙ ap said.Judged only)) accepted,
+    )
 
 module _ (v : List ℕ) (K : ℕ) where
   pub word_said : (w : List ℕ) (s : Said) → Says (WordChecked (fibre_in v) K w) s
       → Exactly (line_of s ≡ text "accepted\n") (GoodWord (fibre_in v) K w)
   word_said w =
       shown (WordChecked (fibre_in v) K w) (GoodWord (fibre_in v) K w) (λ s. line_of s ≡ text "accepted\n")
-      (word_accepted (fibre_in v) K w) accepted_alone refl
+      (word_accepted (fibre_in v) K w) (λ x. accepted_alone (judgement x)) refl
 
   pub word_status : (w : List ℕ) (s : Said) → Says (WordChecked (fibre_in v) K w) s
       → Exactly (status_of s ≡ 0) (GoodWord (fibre_in v) K w)
   word_status w =
       shown (WordChecked (fibre_in v) K w) (GoodWord (fibre_in v) K w) (λ s. status_of s ≡ 0)
-      (word_accepted (fibre_in v) K w) accepted_status refl
+      (word_accepted (fibre_in v) K w) (λ x. accepted_status (judgement x)) refl
 
   pub line_said : (l : List ℕ) (d : ℕ) (s : Said) → Says (LineChecked (fibre_in v) K l d) s
       → Exactly (line_of s ≡ text "accepted\n") (GoodLine (fibre_in v) K l d)
   line_said l d =
       shown (LineChecked (fibre_in v) K l d) (GoodLine (fibre_in v) K l d) (λ s. line_of s ≡ text "accepted\n")
-      (line_accepted (fibre_in v) fibre_one (fibre_sized (first_in v) (second_in v)) K l d) accepted_alone refl
+      (line_accepted (fibre_in v) fibre_one (fibre_sized (first_in v) (second_in v)) K l d)
+      (λ x. accepted_alone (judgement x)) refl
 
   pub line_status : (l : List ℕ) (d : ℕ) (s : Said) → Says (LineChecked (fibre_in v) K l d) s
       → Exactly (status_of s ≡ 0) (GoodLine (fibre_in v) K l d)
   line_status l d =
       shown (LineChecked (fibre_in v) K l d) (GoodLine (fibre_in v) K l d) (λ s. status_of s ≡ 0)
-      (line_accepted (fibre_in v) fibre_one (fibre_sized (first_in v) (second_in v)) K l d) accepted_status refl
+      (line_accepted (fibre_in v) fibre_one (fibre_sized (first_in v) (second_in v)) K l d)
+      (λ x. accepted_status (judgement x)) refl
 
 pub coax_said : (k : CoaxCode) (K : ℕ) (w : List ℕ) (s : Said) → Says (CoaxChecked k K w) s
     → Exactly (line_of s ≡ text "accepted\n") (GoodCoax k K w)
 coax_said k K w =
     shown (CoaxChecked k K w) (GoodCoax k K w) (λ s. line_of s ≡ text "accepted\n")
-    (coax_accepted k K w) accepted_alone refl
+    (coax_accepted k K w) (λ x. accepted_alone (judgement x)) refl
 
 pub coax_status : (k : CoaxCode) (K : ℕ) (w : List ℕ) (s : Said) → Says (CoaxChecked k K w) s
     → Exactly (status_of s ≡ 0) (GoodCoax k K w)
 coax_status k K w =
     shown (CoaxChecked k K w) (GoodCoax k K w) (λ s. status_of s ≡ 0)
-    (coax_accepted k K w) accepted_status refl
+    (coax_accepted k K w) (λ x. accepted_status (judgement x)) refl

@@ -2,23 +2,19 @@
 // told beside the answer, on standard error.
 ghost use Rattle.std.specs.Prelude.{◌≡◌, ℕ, ◌+◌, ◌*◌, ◌≤◌, length, get_or};
 
+use answers::Status;
 use codes::pair;
-use console::say::TROUBLE;
 use console::{arguments, files, say};
 use kinds::System;
 use rules::fibre;
 
 // lists OUT
-fn write(rt: &impl System) -> u8 {
+fn write(rt: &impl System) -> Option<Status> {
     let mut path = io::buffer();
-    let output = outputs::find(rt, 2, &mut path);
-    let to = output.size;
-    if to == 0 {
-        return TROUBLE;
-    }
+    let output = outputs::find(rt, 2, &mut path)?;
     let mut lists = io::large_buffer();
-    let n = pair::fill_plain(&mut lists);
-    outputs::write(rt, output.known, &path[..to], &lists[..n])
+    let size = pair::fill_plain(&mut lists);
+    Some(output.write(rt, &lists[..size]))
 }
 
 // Tells the first entry of a list that is at fault, where one is.
@@ -28,8 +24,7 @@ fn tell_fault(list: &[u8], places: usize, marks: &mut [u8], words: &[u8])
         × ((p : ℕ) → get_or marks.old p 0 ≡ 0)
         × (length words.now ≤ 20) }
 {
-    let entry = lists::first_fault(list, places, marks);
-    if entry < places {
+    if let Some(entry) = lists::first_fault(list, places, marks) {
         say::beside(words, entry);
     }
 }
@@ -57,33 +52,21 @@ fn tell_faults(pair: &[u8]) {
 }
 
 // lists check FILE
-fn test(rt: &impl System) -> u8 {
+fn test(rt: &impl System) -> Option<Status> {
     let mut lists = io::large_buffer();
-    let got = files::read(rt, 3, &mut lists);
-    if !got.fine {
-        return TROUBLE;
-    }
-    let size = got.size;
-    let status = say::answer(pair::answer(&lists[..size]));
-    tell_faults(&lists[..size]);
-    status
+    let lists = files::read(rt, 3, &mut lists)?;
+    let status = say::answer(pair::answer(lists));
+    tell_faults(lists);
+    Some(status)
 }
 
 // lists OUT, lists check FILE. A file of the name check is written as ./check, so that a FILE left out writes none.
-pub fn run(rt: &impl System) -> u8 {
-    let count = arguments::count(rt);
+pub fn run(rt: &impl System) -> Status {
     let mut word = [0u8; 16];
-    let n = arguments::word(rt, 2, &mut word);
-    let is_check = check::same(&word[..n], b"check");
-    if count == 3 {
-        if !is_check {
-            return write(rt);
-        }
+    let is_check = matches!(arguments::word(rt, 2, &mut word), b"check");
+    match arguments::count(rt) {
+        3 if !is_check => write(rt).unwrap_or(Status::Trouble),
+        4 if is_check => test(rt).unwrap_or(Status::Trouble),
+        _ => say::fault(b"lists needs OUT, or check FILE"),
     }
-    if count == 4 {
-        if is_check {
-            return test(rt);
-        }
-    }
-    say::fault(b"lists needs OUT, or check FILE")
 }

@@ -14,7 +14,7 @@ use lib.Seq.{get_or-append_seam}
 use borrow.Author.Tests.{lt-ltb, le-ltb}
 use Rattle.lines.specs.Texts.{digits_of, decimal}
 use Rattle.console.specs.Spelled.{IsDigit, Digits, value_of, Spelled}
-use Rattle.console.specs.declared.decimals.Number.TheVariants.{Is}
+use Rattle.std.specs.Prelude.{Ok}
 
 pub front_same : (i : ℕ) (s t : List ℕ) → i ≤ length s → value_of i (s ++ t) ≡ value_of i s
 unfolding value_of
@@ -67,7 +67,7 @@ all_digits (suc most) n h o = elim (dec_lt n 10) [
     some_left zero h l = absurd (omega arith)
     some_left (suc most) h l = omega arith
 
-pub said_spelled : (n : ℕ) → n < 2 ^ 64 → Spelled (decimal n) (Is n)
+pub said_spelled : (n : ℕ) → n < 2 ^ 64 → Spelled (decimal n) (Ok n)
 said_spelled n h =
     let all = all_digits 20 n (omega arith) (omega arith) in
     (all.1, all.0.0, sym all.0.1, h)

@@ -1,32 +1,25 @@
 // The program's arguments, its own name first.
-ghost use Rattle.io.specs.Counts.{IsPrefixLen};
+ghost use Rattle.std.specs.Prelude.{◌≤◌, length};
 
 use std::env::FillError;
 use std::rt::Env;
 
 fn is_given(rt: &impl Env, i: usize) -> bool {
-    match rt.arg(i, &mut []) {
-        Err(FillError::NotPresent) => false,
-        _ => true,
-    }
+    !matches!(rt.arg(i, &mut []), Err(FillError::NotPresent))
 }
 
 // How many there are.
 pub fn count(rt: &impl Env) -> usize {
-    for i in 0..usize::MAX {
-        if !is_given(rt, i) {
-            return i;
-        }
-    }
-    usize::MAX
+    (0..usize::MAX)
+        .position(|i| !is_given(rt, i))
+        .unwrap_or(usize::MAX)
 }
 
-// How long an argument is, which is put into a room; 0 where it is not given, or longer than the room.
-pub fn word(rt: &impl Env, i: usize, room: &mut [u8]) -> usize
-    ensures { IsPrefixLen result room.new }
+// An argument, which is put into a room; empty where it is not given, or longer than the room. No caller tells these
+// from an empty one.
+pub fn word<'a>(rt: &impl Env, i: usize, room: &'a mut [u8]) -> &'a [u8]
+    ensures { length result.now ≤ length room.old }
 {
-    match rt.arg(i, room) {
-        Ok(n) => n,
-        Err(_) => 0,
-    }
+    let size = rt.arg(i, room).unwrap_or(0);
+    &room[..size]
 }

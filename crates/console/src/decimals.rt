@@ -1,134 +1,112 @@
 // Decimal numbers, as texts and arguments spell them.
 ghost use Rattle.std.specs.Prelude.{◌≡◌, length};
-ghost use Rattle.io.specs.Counts.{IsPrefixLen};
+ghost use Rattle.std.specs.Io.{StartsWith};
 ghost use Rattle.rules.specs.Formats.{fibre_kept};
-ghost use Rattle.console.specs.Spelled.{WithDigit, WithByte, Spelled, is_number, or_zero};
+ghost use Rattle.console.specs.Spelled.{WithDigit, WithByte, Spelled};
 ghost use Rattle.console.specs.Lines.{bytes_of_line};
 
 use crate::say;
 use std::env::FillError;
 use std::rt::Env;
 
-// What a text spells: a number; nothing of the kind; or one above the largest usize.
-#[derive(Clone, Copy)]
-pub enum Number {
-    Is(usize),
+// Why a text spells no number: it is nothing of the kind; or the number is above the largest usize.
+#[derive(Clone, Copy, PartialEq, Eq)]
+pub enum NotNumber {
     Nothing,
     TooLarge,
 }
 
+impl NotNumber {
+    // What is said of it, after a name and before what to type.
+    fn words(self) -> &'static [u8] {
+        match self {
+            NotNumber::Nothing => b" is no number; type ",
+            NotNumber::TooLarge => b" is too large; type ",
+        }
+    }
+}
+
 // A number with one digit more.
-fn with_digit(value: usize, byte: u8) -> Number
+fn with_digit(value: usize, byte: u8) -> Result<usize, NotNumber>
     ensures { WithDigit value byte result }
 {
-    if byte < b'0' {
-        return Number::Nothing;
+    if !byte.is_ascii_digit() {
+        return Err(NotNumber::Nothing);
     }
-    if b'9' < byte {
-        return Number::Nothing;
-    }
-    let digit = (byte - b'0') as usize;
-    if (usize::MAX - digit) / 10 < value {
-        return Number::TooLarge;
-    }
-    Number::Is(10 * value + digit)
+    let digit = usize::from(byte - b'0');
+    value
+        .checked_mul(10)
+        .and_then(|tens| tens.checked_add(digit))
+        .ok_or(NotNumber::TooLarge)
 }
 
 // What a text spells with one byte more. The largest usize stands for a number too large: with a digit more it is one,
 // and with any other byte nothing is spelled.
-fn with_byte(number: Number, byte: u8) -> Number
+fn with_byte(number: Result<usize, NotNumber>, byte: u8) -> Result<usize, NotNumber>
     ensures { WithByte number byte result }
 {
     match number {
-        Number::Is(value) => with_digit(value, byte),
-        Number::Nothing => Number::Nothing,
-        Number::TooLarge => with_digit(usize::MAX, byte),
+        Ok(value) => with_digit(value, byte),
+        Err(NotNumber::Nothing) => number,
+        Err(NotNumber::TooLarge) => with_digit(usize::MAX, byte),
     }
 }
 
 // The number that a text spells in digits.
-pub fn read(text: &[u8]) -> Number
+pub fn read(text: &[u8]) -> Result<usize, NotNumber>
     ensures { Spelled text.now result }
 {
-    if text.len() == 0 {
-        return Number::Nothing;
+    if text.is_empty() {
+        return Err(NotNumber::Nothing);
     }
-    let mut number = Number::Is(0);
-    for i in 0..text.len() {
-        number = with_byte(number, text[i]);
+    let mut number = Ok(0);
+    for &byte in text {
+        number = with_byte(number, byte);
     }
     number
 }
 
-pub fn is_one(number: Number) -> bool
-    ensures { result ≡ is_number number }
-{
-    match number {
-        Number::Is(_) => true,
-        Number::Nothing => false,
-        Number::TooLarge => false,
-    }
-}
-
-// The number, or 0 where there is none.
-pub fn value(number: Number) -> usize
-    ensures { result ≡ or_zero number }
-{
-    match number {
-        Number::Is(value) => value,
-        Number::Nothing => 0,
-        Number::TooLarge => 0,
-    }
-}
-
 // The number that an argument of more than 64 bytes spells. One that is longer than the room is too large, if it begins
 // as a number.
-fn spelled_long(rt: &impl Env, i: usize) -> Number {
+fn spelled_long(rt: &impl Env, i: usize) -> Result<usize, NotNumber> {
     let mut text = io::large_buffer();
     match rt.arg(i, &mut text) {
         Ok(n) => read(&text[..n]),
-        Err(FillError::NotPresent) => Number::Nothing,
-        Err(FillError::TooLong) => match read(&text) {
-            Number::Is(_) => Number::TooLarge,
-            Number::Nothing => Number::Nothing,
-            Number::TooLarge => Number::TooLarge,
-        },
+        Err(FillError::NotPresent) => Err(NotNumber::Nothing),
+        Err(FillError::TooLong) => read(&text).and(Err(NotNumber::TooLarge)),
     }
 }
 
 // The number that an argument spells. Few are long, and a large buffer takes time to clear.
-fn spelled(rt: &impl Env, i: usize) -> Number {
+fn spelled(rt: &impl Env, i: usize) -> Result<usize, NotNumber> {
     let mut text = [0u8; 64];
     match rt.arg(i, &mut text) {
         Ok(n) => read(&text[..n]),
-        Err(FillError::NotPresent) => Number::Nothing,
+        Err(FillError::NotPresent) => Err(NotNumber::Nothing),
         Err(FillError::TooLong) => spelled_long(rt, i),
     }
 }
 
 // The number that an argument spells. What is wrong with it is said, with its name and the numbers to type.
-pub fn argument(rt: &impl Env, i: usize, name: &[u8], range: &[u8]) -> Number {
-    let number = spelled(rt, i);
-    match number {
-        Number::Is(_) => {}
-        Number::Nothing => {
-            say::wrong(name, b" is no number; type ", range);
-        }
-        Number::TooLarge => {
-            say::wrong(name, b" is too large; type ", range);
+pub fn argument(rt: &impl Env, i: usize, name: &[u8], range: &[u8]) -> Option<usize> {
+    match spelled(rt, i) {
+        Ok(number) => Some(number),
+        Err(why) => {
+            say::wrong(name, why.words(), range);
+            None
         }
     }
-    number
 }
 
-// How many bytes of a line the line word of so many payload bits takes, whatever the lists. There is one for the most
+// The bytes of a line that the line word of so many payload bits takes, whatever the lists. There is one for the most
 // payload bits at most.
-pub fn line_bytes(bits: usize, line: &[u8]) -> usize
-    ensures prefix_len { IsPrefixLen result line.now }
-    ensures value { result ≡ bytes_of_line fibre_kept bits (length line.now) }
+pub fn line_bytes(bits: usize, line: &[u8]) -> &[u8]
+    ensures front { StartsWith line.now result.now }
+    ensures value { length result.now ≡ bytes_of_line fibre_kept bits (length line.now) }
 {
     if rules::fibre::PAYLOAD_MOST < bits {
-        return 0;
+        return b"";
     }
-    io::count(bits::needed(bits + rules::fibre::TAIL_BITS) as isize, line)
+    let size = bits::needed(bits + rules::fibre::TAIL_BITS).min(line.len());
+    &line[..size]
 }

@@ -6,25 +6,58 @@
 // Each line says first whether its fact is right; the last two say how many are right and how many are wrong.
 #![tactic(auto)]
 
-ghost use Rattle.std.specs.Prelude.{◌≡◌, ◌+◌, ◌*◌, ◌≤◌, ◌<◌, length};
-ghost use Rattle.rules.specs.Bits.{need};
-ghost use Rattle.rules.specs.Promises.{refusal_of};
+ghost use Rattle.std.specs.Prelude.{◌≡◌, cond, ◌+◌, ◌-◌, ◌*◌, ◌^◌, ◌≤◌, ◌<◌, min, length};
 
-use rules::{Answer, Outcome, Stream, fibre};
-
-const STDOUT_FILENO: i32 = 1;
+use rules::{Refusal, Stream, fibre};
+use std::array;
+use std::fmt::Display;
 
 // The payload's bits: 160 bytes and 5 bits.
 const K: usize = 1285;
 
+const PAYLOAD_BYTES: usize = 161;
+
+type Payload = [u8; PAYLOAD_BYTES];
+
 // The delimiter of every finish but the last lesson's.
 const DELIMITER: usize = 682;
+
+// The bytes of a tail, 322, and 8 after them, which the finish leaves.
+const ROOM: usize = 330;
 
 // What stands in a buffer before it is written to.
 const BLANK: u8 = 165;
 
-// How many facts the program tells.
-const FACTS: u64 = 23;
+// How many facts were right, and how many wrong.
+#[derive(Drop)]
+struct Tally {
+    right: usize,
+    wrong: usize,
+}
+
+impl Tally {
+    // Says whether a fact is right, and counts it. A line that was not written is no fact of the streams'.
+    fn tell(&mut self, rt: &impl Print, is_right: bool, fact: impl Display + Drop)
+        ensures right { self.new.right ≡ cond is_right (min (self.old.right + 1) (2 ^ 64 - 1)) self.old.right }
+        ensures wrong { self.new.wrong ≡ cond is_right self.old.wrong (min (self.old.wrong + 1) (2 ^ 64 - 1)) }
+    {
+        let word = if is_right {
+            self.right = self.right.saturating_add(1);
+            "right"
+        } else {
+            self.wrong = self.wrong.saturating_add(1);
+            "wrong"
+        };
+        let _ = println!(rt; "{word} {fact}");
+    }
+}
+
+// A pair of lists, by which a stream is fed and finished.
+#[derive(Clone, Copy)]
+struct Pair<'a> {
+    first: &'a [u8],
+    second: &'a [u8],
+}
 
 // A stream on its way, and whether every answer and every state up to here was right.
 #[derive(Clone, Copy)]
@@ -40,309 +73,206 @@ fn payload_byte(i: usize) -> u8
     ((37 * i + 235) % 256) as u8
 }
 
-// Writes the payload.
-fn write_payload(payload: &mut [u8])
-    requires { length payload.old ≡ 161 }
+// Makes a list that turns the order of its places round. An entry has two bytes, the low one first.
+fn fill_reversed(list: &mut [u8], places: u16)
+    requires { length list.old ≡ 2 * places }
 {
-    for i in 0..161 {
-        payload[i] = payload_byte(i);
+    for (place, entry) in (0..places).rev().zip(list.chunks_exact_mut(2)) {
+        entry.copy_from_slice(&place.to_le_bytes());
     }
 }
 
-fn lowest(number: usize) -> u8 {
-    (number % 256) as u8
-}
+impl Pair<'_> {
+    // Hands the stream a piece.
+    fn piece(self, stream: &mut Stream, count: usize, bytes: &[u8]) -> Result<(), Refusal> {
+        stream::piece(stream, count, bytes, self.first, self.second)
+    }
 
-// Makes a list of so many places that turns their order round.
-fn fill_reversed(list: &mut [u8], places: usize)
-    requires { (length list.old ≡ 2 * places) × (places ≤ 65536) }
-{
-    for t in 0..places {
-        let place = places - 1 - t;
-        list[2 * t] = lowest(place);
-        list[2 * t + 1] = lowest(place / 256);
+    fn finish(self, stream: &mut Stream, delimiter: usize, tail: &mut [u8]) -> Result<(), Refusal> {
+        stream::finish(stream, delimiter, self.first, self.second, tail)
+    }
+
+    // Cuts `count` bits out of the payload, those from `at` on, and hands them to the stream as a piece.
+    fn feed(
+        self,
+        stream: &mut Stream,
+        payload: &Payload,
+        at: usize,
+        count: usize,
+    ) -> Result<(), Refusal>
+        requires { at + count ≤ 1285 }
+    {
+        let mut bytes = [0u8; PAYLOAD_BYTES];
+        bits::add_run(&mut bytes, 0, payload, at, count);
+        self.piece(stream, count, &bytes[0..bits::needed(count)])
+    }
+
+    // Whether a stream is right after the pieces that end at `end`: so many bits held, and the stream what a fresh one
+    // becomes by the same first bits as one single piece.
+    fn is_fed(self, stream: Stream, payload: &Payload, end: usize) -> bool
+        requires { end ≤ 1285 }
+    {
+        let mut whole = stream::begin();
+        let _ = self.feed(&mut whole, payload, 0, end);
+        whole.held == end && stream == whole
+    }
+
+    // Feeds the payload in pieces of so many bits.
+    fn feed_all(self, payload: &Payload, size: usize) -> Way
+        requires { 0 < size }
+    {
+        let mut way = Way {
+            stream: stream::begin(),
+            right: true,
+        };
+        for at in (0..K).step_by(size) {
+            way.take_piece(self, payload, at, size.min(K - at));
+        }
+        way
+    }
+
+    // What encode writes after the payload: 2,570 bits in 322 bytes. The 8 bytes after them stay.
+    fn tail(self, payload: &Payload) -> Result<[u8; ROOM], Refusal> {
+        let mut line = [0u8; 482];
+        line::encode(K, payload, DELIMITER, self.first, self.second, &mut line)?;
+        let mut tail = [BLANK; ROOM];
+        bits::clear(&mut tail, fibre::TAIL_BYTES);
+        bits::add_run(&mut tail, 0, &line, K, 2570);
+        Ok(tail)
+    }
+
+    // Whether the finish is right: 322 bytes written, those that encode writes after the payload, and the 8 after them
+    // left; a fresh stream; and a second finish refused, with nothing changed.
+    fn is_finished(self, mut stream: Stream, payload: &Payload) -> bool {
+        let mut written = [BLANK; ROOM];
+        let done = self.finish(&mut stream, DELIMITER, &mut written);
+        if done.is_err() || stream != stream::begin() {
+            return false;
+        }
+        let again = self.finish(&mut stream, DELIMITER, &mut written);
+        if again != Err(Refusal::Count) || stream != stream::begin() {
+            return false;
+        }
+        self.tail(payload) == Ok(written)
     }
 }
 
-// The number of an answer: the refusal's, and 0 for none.
-fn number_of(answer: Answer) -> usize
-    ensures { result ≡ refusal_of answer }
-{
-    match answer {
-        Answer::Done => 0,
-        Answer::Refused(refusal) => refusal,
+impl Way {
+    // A piece that changes nothing: an empty one, which is done, or one that is refused.
+    fn take_idle(&mut self, pair: Pair, count: usize, bytes: &[u8], expected: Result<(), Refusal>) {
+        let before = self.stream;
+        let answer = pair.piece(&mut self.stream, count, bytes);
+        self.right &= answer == expected && self.stream == before;
+    }
+
+    // The next piece of the payload, and after it an empty one, and one of 9 bits in a single byte, which is refused.
+    fn take_piece(&mut self, pair: Pair, payload: &Payload, at: usize, count: usize)
+        requires { at + count ≤ 1285 }
+    {
+        let answer = pair.feed(&mut self.stream, payload, at, count);
+        self.right &= answer.is_ok() && pair.is_fed(self.stream, payload, at + count);
+        self.take_idle(pair, 0, b"", Ok(()));
+        self.take_idle(pair, 9, b"U", Err(Refusal::Bytes));
     }
 }
 
-// Whether two streams serve the same code, and hold the same count of bits and the same 384 bytes of running checks.
-fn same_stream(one: Stream, other: Stream) -> bool {
-    if one.number != other.number {
-        return false;
-    }
-    if one.held != other.held {
-        return false;
-    }
-    let first = one.checks;
-    let second = other.checks;
-    check::same(&first, &second)
-}
-
-// Whether an outcome answers by this number and hands back this stream.
-fn is_outcome(outcome: Outcome, number: usize, stream: Stream) -> bool {
-    let answer = outcome.answer;
-    if number_of(answer) != number {
-        return false;
-    }
-    let handed = outcome.stream;
-    same_stream(handed, stream)
-}
-
-// Hands the stream a piece: the first bytes that a run of so many bits takes.
-fn hand(stream: Stream, count: usize, bytes: &[u8], first: &[u8], second: &[u8]) -> Outcome
-    requires { need count ≤ length bytes.now }
+// The two facts of a cutting by the lists of this name: its states, and its finish.
+fn try_cutting(
+    rt: &impl Print,
+    tally: &mut Tally,
+    payload: &Payload,
+    size: usize,
+    lists: &str,
+    pair: Pair,
+)
+    requires { 0 < size }
 {
-    let end = bits::needed(count);
-    stream::piece(stream, count, &bytes[0..end], first, second)
-}
-
-// Cuts `count` bits out of the payload, those from `at` on, and hands them to the stream as a piece.
-fn feed(
-    stream: Stream,
-    payload: &[u8],
-    at: usize,
-    count: usize,
-    first: &[u8],
-    second: &[u8],
-) -> Outcome
-    requires { (length payload.now ≡ 161) × (at + count ≤ 1285) }
-{
-    let mut bytes = [0u8; 161];
-    bits::add_run(&mut bytes, 0, payload, at, count);
-    hand(stream, count, &bytes, first, second)
-}
-
-// Whether an outcome is right after the piece that ends at `end`: accepted, so many bits held, and the stream what a
-// fresh one becomes by the same first bits as one single piece.
-fn is_fed(outcome: Outcome, payload: &[u8], end: usize, first: &[u8], second: &[u8]) -> bool
-    requires { (length payload.now ≡ 161) × (end ≤ 1285) }
-{
-    let whole = feed(stream::begin(), payload, 0, end, first, second);
-    let stream = whole.stream;
-    if stream.held != end {
-        return false;
-    }
-    is_outcome(outcome, 0, stream)
-}
-
-// A piece that changes nothing: an empty one, by number 0, or one that is refused by its number.
-fn take_idle(
-    way: Way,
-    count: usize,
-    bytes: &[u8],
-    number: usize,
-    first: &[u8],
-    second: &[u8],
-) -> Way {
-    let before = way.stream;
-    let outcome = stream::piece(before, count, bytes, first, second);
-    let after = outcome.stream;
-    Way {
-        stream: after,
-        right: way.right & is_outcome(outcome, number, before),
-    }
-}
-
-// The next piece of the payload, and after it an empty one, and one of 9 bits in a single byte, which is refused.
-fn take_piece(way: Way, payload: &[u8], at: usize, count: usize, first: &[u8], second: &[u8]) -> Way
-    requires { (length payload.now ≡ 161) × (at + count ≤ 1285) }
-{
-    let before = way.stream;
-    let outcome = feed(before, payload, at, count, first, second);
-    let after = outcome.stream;
-    let next = Way {
-        stream: after,
-        right: way.right & is_fed(outcome, payload, at + count, first, second),
-    };
-    let empty = take_idle(next, 0, b"", 0, first, second);
-    take_idle(empty, 9, b"U", 2, first, second)
-}
-
-// The smaller one.
-fn least(size: usize, left: usize) -> usize
-    requires { (0 < size) × (0 < left) }
-    ensures { (0 < result) × (result ≤ left) }
-{
-    if size < left {
-        return size;
-    }
-    left
-}
-
-// Feeds the payload in pieces of so many bits.
-fn feed_all(payload: &[u8], size: usize, first: &[u8], second: &[u8]) -> Way
-    requires { (length payload.now ≡ 161) × (0 < size) }
-{
-    let mut way = Way {
-        stream: stream::begin(),
-        right: true,
-    };
-    let mut at = 0;
-    while at < K {
-        let count = least(size, K - at);
-        way = take_piece(way, payload, at, count, first, second);
-        at += count;
-    }
-    way
-}
-
-// Writes what encode writes after the payload: 2,570 bits in 322 bytes. The 8 bytes after them stay.
-fn write_tail(payload: &[u8], tail: &mut [u8], first: &[u8], second: &[u8]) -> usize
-    requires { (length payload.now ≡ 161) × (length tail.old ≡ 330) }
-{
-    let mut line = [0u8; 482];
-    let answer = line::encode(K, payload, DELIMITER, first, second, &mut line);
-    bits::clear(tail, fibre::TAIL_BYTES);
-    bits::add_run(tail, 0, &line, K, 2570);
-    number_of(answer)
-}
-
-// Whether the finish is right: 322 bytes written, those that encode writes after the payload, and the 8 after them
-// left; a fresh stream; and a second finish refused, with nothing changed.
-fn is_finished(stream: Stream, payload: &[u8], first: &[u8], second: &[u8]) -> bool
-    requires { length payload.now ≡ 161 }
-{
-    let mut written = [BLANK; 330];
-    let outcome = stream::finish(stream, DELIMITER, first, second, &mut written);
-    if !is_outcome(outcome, 0, stream::begin()) {
-        return false;
-    }
-    let fresh = outcome.stream;
-    let again = stream::finish(fresh, DELIMITER, first, second, &mut written);
-    if !is_outcome(again, 1, fresh) {
-        return false;
-    }
-    let mut tail = [BLANK; 330];
-    if write_tail(payload, &mut tail, first, second) != 0 {
-        return false;
-    }
-    check::same(&written, &tail)
-}
-
-// Begins a line: whether its fact is right. Answers 1 where it is, else 0.
-fn tell(right: bool) -> u64
-    ensures { result ≤ 1 }
-{
-    if right {
-        io::write_all(STDOUT_FILENO, b"right ");
-        return 1;
-    }
-    io::write_all(STDOUT_FILENO, b"wrong ");
-    0
-}
-
-// Tells of a cutting into pieces of so many bits, after the name of its lists. Answers as tell does.
-fn tell_cut(right: bool, lists: &[u8], size: usize) -> u64
-    ensures { result ≤ 1 }
-{
-    let answer = tell(right);
-    io::write_all(STDOUT_FILENO, lists);
-    io::write_all(STDOUT_FILENO, b"cut ");
-    io::print_decimal(STDOUT_FILENO, size as u64);
-    io::write_all(STDOUT_FILENO, b" at a time, ");
-    answer
-}
-
-// The two facts of a cutting: its states, and its finish. Answers how many are right.
-fn try_cutting(payload: &[u8], size: usize, lists: &[u8], first: &[u8], second: &[u8]) -> u64
-    requires { (length payload.now ≡ 161) × (0 < size) }
-    ensures { result ≤ 2 }
-{
-    let way = feed_all(payload, size, first, second);
-    let states = tell_cut(way.right, lists, size);
-    io::write_all(STDOUT_FILENO, b"states\n");
+    let way = pair.feed_all(payload, size);
+    tally.tell(
+        rt,
+        way.right,
+        format_args!("{lists}cut {size} at a time, states"),
+    );
     let stream = way.stream;
-    let finish = tell_cut(is_finished(stream, payload, first, second), lists, size);
-    io::write_all(STDOUT_FILENO, b"finish\n");
-    states + finish
+    let finished = pair.is_finished(stream, payload);
+    tally.tell(
+        rt,
+        finished,
+        format_args!("{lists}cut {size} at a time, finish"),
+    );
 }
 
-// Every cutting, by the pair that changes nothing. Answers how many facts are right.
-fn try_plain(payload: &[u8], first: &[u8], second: &[u8]) -> u64
-    requires { length payload.now ≡ 161 }
-    ensures { result ≤ 14 }
-{
-    let bits = try_cutting(payload, 1, b"", first, second);
-    let bytes = try_cutting(payload, 7, b"", first, second)
-        + try_cutting(payload, 8, b"", first, second)
-        + try_cutting(payload, 9, b"", first, second);
-    let blocks = try_cutting(payload, 255, b"", first, second)
-        + try_cutting(payload, 256, b"", first, second)
-        + try_cutting(payload, 257, b"", first, second);
-    bits + bytes + blocks
-}
-
-// Some cuttings, by a pair of which both lists are reversed. Answers how many facts are right.
-fn try_reversed(payload: &[u8], first: &[u8], second: &[u8]) -> u64
-    requires { length payload.now ≡ 161 }
-    ensures { result ≤ 6 }
-{
-    try_cutting(payload, 9, b"reversed ", first, second)
-        + try_cutting(payload, 255, b"reversed ", first, second)
-        + try_cutting(payload, 257, b"reversed ", first, second)
-}
-
-// The cuttings by each pair. Answers how many facts are right. The pair that changes nothing stays in the lists.
-fn try_cuttings(first: &mut [u8], second: &mut [u8]) -> u64
-    requires { (length first.old ≡ 29184) × (length second.old ≡ 6144) }
-    ensures { result ≤ 20 }
-{
-    let mut payload = [0u8; 161];
-    write_payload(&mut payload);
-    fill_reversed(first, fibre::PAYLOAD_PLACES);
-    fill_reversed(second, fibre::CHECKS);
-    let reversed = try_reversed(&payload, first, second);
+// Some cuttings, by a pair of which both lists are reversed, and then all, by the pair that changes nothing, which
+// stays in the lists.
+fn try_cuttings(
+    rt: &impl Print,
+    tally: &mut Tally,
+    first: &mut [u8; fibre::FIRST_BYTES],
+    second: &mut [u8; fibre::SECOND_BYTES],
+) {
+    let payload: Payload = array::from_fn(payload_byte);
+    fill_reversed(first, fibre::PAYLOAD_PLACES as u16);
+    fill_reversed(second, fibre::CHECKS as u16);
+    let reversed = Pair { first, second };
+    for size in [9, 255, 257] {
+        try_cutting(rt, tally, &payload, size, "reversed ", reversed);
+    }
     lists::fill_plain(first, fibre::PAYLOAD_PLACES);
     lists::fill_plain(second, fibre::CHECKS);
-    reversed + try_plain(&payload, first, second)
+    let plain = Pair { first, second };
+    for size in [1, 7, 8, 9, 255, 256, 257] {
+        try_cutting(rt, tally, &payload, size, "", plain);
+    }
 }
 
-// Lesson: 14,392 held, and a piece of 0 bits, then of 1 bit. Answers how many are right.
-fn try_full(first: &[u8], second: &[u8]) -> u64
-    ensures { result ≤ 2 }
-{
-    let stream = Stream {
+// Lesson: 14,392 held, and a piece of 0 bits, then of 1 bit.
+fn try_full(rt: &impl Print, tally: &mut Tally, pair: Pair) {
+    let full = Stream {
         number: fibre::NUMBER,
         held: fibre::PAYLOAD_MOST,
         checks: [BLANK; rules::STREAM_BYTES],
     };
-    let none = tell(is_outcome(stream::piece(stream, 0, b"", first, second), 0, stream));
-    io::write_all(STDOUT_FILENO, b"14392 held, piece of 0 bits\n");
-    let one = tell(is_outcome(stream::piece(stream, 1, b"\x01", first, second), 6, stream));
-    io::write_all(STDOUT_FILENO, b"14392 held, piece of 1 bit\n");
-    none + one
-}
-
-// Lesson: the finish of a fresh stream with delimiter 1,024. Answers 1 where it is right, else 0.
-fn try_fresh(first: &[u8], second: &[u8]) -> u64
-    ensures { result ≤ 1 }
-{
-    let fresh = stream::begin();
-    let mut written = [BLANK; fibre::TAIL_BYTES];
-    let outcome = stream::finish(fresh, 1024, first, second, &mut written);
-    let right = tell(
-        is_outcome(outcome, 1, fresh) & check::same(&written, &[BLANK; fibre::TAIL_BYTES]),
+    let mut stream = full;
+    let none = pair.piece(&mut stream, 0, b"");
+    tally.tell(
+        rt,
+        none.is_ok() && stream == full,
+        "14392 held, piece of 0 bits",
     );
-    io::write_all(STDOUT_FILENO, b"fresh finish, delimiter 1024\n");
-    right
+    let mut stream = full;
+    let one = pair.piece(&mut stream, 1, b"\x01");
+    tally.tell(
+        rt,
+        one == Err(Refusal::TooMany) && stream == full,
+        "14392 held, piece of 1 bit",
+    );
 }
 
-fn main() {
+// Lesson: the finish of a fresh stream with delimiter 1,024.
+fn try_fresh(rt: &impl Print, tally: &mut Tally, pair: Pair) {
+    let mut stream = stream::begin();
+    let mut written = [BLANK; fibre::TAIL_BYTES];
+    let answer = pair.finish(&mut stream, 1024, &mut written);
+    let is_left = stream == stream::begin() && written == [BLANK; fibre::TAIL_BYTES];
+    tally.tell(
+        rt,
+        answer == Err(Refusal::Count) && is_left,
+        "fresh finish, delimiter 1024",
+    );
+}
+
+// Whether a line could be written does not change the exit status.
+fn main(rt: HostRuntime) {
     let mut first = [0u8; fibre::FIRST_BYTES];
     let mut second = [0u8; fibre::SECOND_BYTES];
-    let cuttings = try_cuttings(&mut first, &mut second);
-    let right = cuttings + try_full(&first, &second) + try_fresh(&first, &second);
-    io::print_decimal(STDOUT_FILENO, right);
-    io::write_all(STDOUT_FILENO, b" right\n");
-    io::print_decimal(STDOUT_FILENO, FACTS - right);
-    io::write_all(STDOUT_FILENO, b" wrong\n");
+    let mut tally = Tally { right: 0, wrong: 0 };
+    try_cuttings(&rt, &mut tally, &mut first, &mut second);
+    let plain = Pair {
+        first: &first,
+        second: &second,
+    };
+    try_full(&rt, &mut tally, plain);
+    try_fresh(&rt, &mut tally, plain);
+    let _ = println!(rt; "{} right", tally.right);
+    let _ = println!(rt; "{} wrong", tally.wrong);
 }

@@ -1,16 +1,15 @@
 // What the program says of itself, in lines of at most 40 characters: its commands, its answers and its refusals.
 #![tactic(auto)]
 
-use console::decimals::Number;
-use console::say::TROUBLE;
+use answers::Status;
 use console::{arguments, decimals, say};
 use std::rt::Env;
 
-pub fn version() -> u8 {
+pub fn version() -> Status {
     say::text(b"birdovesta 4\n")
 }
 
-fn all() -> u8 {
+fn all() -> Status {
     say::text(
         b"lessons [VECTORS]\n\
         encode LISTS BITS DELIMITER PAYLOAD OUT\n\
@@ -38,7 +37,7 @@ fn all() -> u8 {
     )
 }
 
-fn lessons() -> u8 {
+fn lessons() -> Status {
     say::text(
         b"lessons [VECTORS]\n\
         VECTORS: a file as in docs/VECTORS.md,\n\
@@ -49,7 +48,7 @@ fn lessons() -> u8 {
     )
 }
 
-fn encode() -> u8 {
+fn encode() -> Status {
     say::text(
         b"encode LISTS BITS DELIMITER PAYLOAD OUT\n\
         LISTS: plain, or a file; help lists\n\
@@ -63,7 +62,7 @@ fn encode() -> u8 {
     )
 }
 
-fn complete() -> u8 {
+fn complete() -> Status {
     say::text(
         b"complete LISTS BITS WORD OUT\n\
         LISTS: plain, or a file; help lists\n\
@@ -77,7 +76,7 @@ fn complete() -> u8 {
     )
 }
 
-fn word() -> u8 {
+fn word() -> Status {
     say::text(
         b"word LISTS BITS WORD\n\
         LISTS: plain, or a file; help lists\n\
@@ -90,7 +89,7 @@ fn word() -> u8 {
     )
 }
 
-fn line() -> u8 {
+fn line() -> Status {
     say::text(
         b"line LISTS BITS DELIMITER LINE\n\
         LISTS: plain, or a file; help lists\n\
@@ -103,7 +102,7 @@ fn line() -> u8 {
     )
 }
 
-fn stream() -> u8 {
+fn stream() -> Status {
     say::text(
         b"stream LISTS DELIMITER OUT\n\
         [BITS PIECE]...\n\
@@ -122,7 +121,7 @@ fn stream() -> u8 {
     )
 }
 
-fn lists() -> u8 {
+fn lists() -> Status {
     say::text(
         b"lists OUT\n\
         lists check FILE\n\
@@ -146,7 +145,7 @@ fn lists() -> u8 {
     )
 }
 
-fn coax() -> u8 {
+fn coax() -> Status {
     say::text(
         b"coax CODE encode BITS PAYLOAD OUT\n\
         coax CODE complete BITS WORD OUT\n\
@@ -171,7 +170,7 @@ fn coax() -> u8 {
     )
 }
 
-fn help() -> u8 {
+fn help() -> Status {
     say::text(
         b"help [COMMAND]\n\
         help refusal [NUMBER]\n\
@@ -183,197 +182,139 @@ fn help() -> u8 {
 
 // Every refusal: its number, when it is given, where that differs also when with coax, and what to do.
 // include/birdovesta.h has the same words.
-fn refusal(number: usize) -> u8 {
-    match number {
-        1 => say::text(
-            b"refusal 1\n\
+fn refusal(number: usize) -> Option<&'static [u8]> {
+    let text: &'static [u8] = match number {
+        1 => b"refusal 1\n\
             bits is 0 or above 14392\n\
             coax: bits is not 14400 or 5040\n\
             Give 257 to 14392, or these with coax.\n",
-        ),
-        2 => say::text(
-            b"refusal 2\ntoo many or too few bytes\nGive just the bytes that the bits take.\n",
-        ),
-        3 => say::text(
-            b"refusal 3\nan unused high bit is 1\nSet the last byte's high bits to 0.\n",
-        ),
-        4 => say::text(b"refusal 4\nthe delimiter is above 1023\nGive 0 to 1023.\n"),
-        5 => say::text(b"refusal 5\nthe output is shorter than needed\nLend more bytes from C.\n"),
-        6 => say::text(
-            b"refusal 6\n\
+        2 => b"refusal 2\ntoo many or too few bytes\nGive just the bytes that the bits take.\n",
+        3 => b"refusal 3\nan unused high bit is 1\nSet the last byte's high bits to 0.\n",
+        4 => b"refusal 4\nthe delimiter is above 1023\nGive 0 to 1023.\n",
+        5 => b"refusal 5\nthe output is shorter than needed\nLend more bytes from C.\n",
+        6 => b"refusal 6\n\
             more than 14392 bits with this piece\n\
             coax: more than 14400 or 5040\n\
             Begin the next word with it.\n",
-        ),
-        7 => say::text(
-            b"refusal 7\n\
+        7 => b"refusal 7\n\
             the stream's state is not allowed\n\
             It claims above 14392 bits;\n\
             coax: above 14400 or 5040,\n\
             or a 1 is past the checks in use.\n\
             Begin a new stream.\n",
-        ),
-        8 => say::text(
-            b"refusal 8\na shortened place is 1\nSet it to 0. The command word names it.\n",
-        ),
-        10 => say::text(
-            b"refusal 10\nbits is not a multiple of 257\nGive whole data blocks of 257 bits.\n",
-        ),
-        12 => say::text(
+        8 => b"refusal 8\na shortened place is 1\nSet it to 0. The command word names it.\n",
+        10 => b"refusal 10\nbits is not a multiple of 257\nGive whole data blocks of 257 bits.\n",
+        12 =>
             b"refusal 12\nthe stream serves another code\nGive it to the calls of its own code.\n",
-        ),
-        16 => say::text(
+        16 =>
             b"refusal 16\na list is no reordering of its places\nName each place once; lists check FILE.\n",
-        ),
-        17 => say::text(b"refusal 17\nthe stream is not 400 bytes\nLend all 400 bytes from C.\n"),
-        _ => TROUBLE,
-    }
+        17 => b"refusal 17\nthe stream is not 400 bytes\nLend all 400 bytes from C.\n",
+        _ => return None,
+    };
+    Some(text)
 }
 
-fn refusals() -> u8 {
-    let mut status = 0;
-    for number in 0..18 {
-        let said = refusal(number);
-        if said != TROUBLE {
-            status = say::worse(status, said);
-        }
-    }
-    status
+fn refusals() -> Status {
+    (0..18)
+        .filter_map(refusal)
+        .fold(Status::Fine, |status, text| status.max(say::text(text)))
 }
 
 // help refusal [NUMBER]
-fn of_refusals(rt: &impl Env) -> u8 {
+fn of_refusals(rt: &impl Env) -> Status {
     if arguments::count(rt) == 3 {
         return refusals();
     }
-    let Number::Is(number) = decimals::argument(rt, 3, b"NUMBER", b"1 to 17") else {
-        return TROUBLE;
+    let Some(number) = decimals::argument(rt, 3, b"NUMBER", b"1 to 17") else {
+        return Status::Trouble;
     };
-    let said = refusal(number);
-    if said == TROUBLE {
-        return say::fault(b"no refusal has this number");
+    match refusal(number) {
+        Some(text) => say::text(text),
+        None => say::fault(b"no refusal has this number"),
     }
-    said
 }
 
 // An answer by its first word: what it means, and what to do.
-fn of_answer(word: &[u8]) -> u8 {
-    if check::same(word, b"accepted") {
-        return say::text(b"accepted\nThe word is right.\nNothing need be done.\n");
-    }
-    if check::same(word, b"check") {
-        return say::text(
+fn of_answer(word: &[u8]) -> Status {
+    match word {
+        b"accepted" => say::text(b"accepted\nThe word is right.\nNothing need be done.\n"),
+        b"check" => say::text(
             b"check ROW fails COUNT\n\
             ROW is the lowest check that fails,\n\
             COUNT how many do. Send the word anew.\n",
-        );
-    }
-    if check::same(word, b"shortened") {
-        return say::text(
+        ),
+        b"shortened" => say::text(
             b"shortened PLACE\n\
             PLACE is the lowest inner place that\n\
             is shortened and 1. Set it to 0.\n",
-        );
-    }
-    if check::same(word, b"parity") {
-        return say::text(
+        ),
+        b"parity" => say::text(
             b"parity PLACE\n\
             PLACE is the lowest sent parity bit\n\
             that is wrong. Right lists? Send anew.\n",
-        );
-    }
-    if check::same(word, b"delimiter") {
-        return say::text(
+        ),
+        b"delimiter" => say::text(
             b"delimiter BIT\n\
             BIT is the lowest delimiter bit that\n\
             differs. Give the one that was sent.\n",
-        );
+        ),
+        _ => of_progress(word),
     }
-    of_progress(word)
 }
 
-fn of_progress(word: &[u8]) -> u8 {
-    if check::same(word, b"written") {
-        return say::text(b"written BYTES\nOUT has so many bytes.\nNothing need be done.\n");
-    }
-    if check::same(word, b"reordering") {
-        return say::text(
+fn of_progress(word: &[u8]) -> Status {
+    match word {
+        b"written" => say::text(b"written BYTES\nOUT has so many bytes.\nNothing need be done.\n"),
+        b"reordering" => say::text(
             b"reordering\n\
             Both lists name each place once.\n\
             Nothing need be done.\n",
-        );
-    }
-    if check::same(word, b"piece") || check::same(word, b"held") {
-        return say::text(
+        ),
+        b"piece" | b"held" => say::text(
             b"piece NUMBER held BITS\n\
             The stream holds so many bits now.\n\
             The end takes as many as encode does.\n",
-        );
-    }
-    if check::same(word, b"refused") {
-        return say::text(
+        ),
+        b"refused" => say::text(
             b"refused pieces COUNT\n\
             So many pieces were left out.\n\
             Look for: piece NUMBER refusal\n",
-        );
-    }
-    if check::same(word, b"right") || check::same(word, b"wrong") {
-        return say::text(
+        ),
+        b"right" | b"wrong" => say::text(
             b"right NAME, wrong NAME\n\
             This lesson or vector is as expected,\n\
             or not: then read it again.\n",
-        );
+        ),
+        _ => say::fault(b"no help for that; type birdovesta help"),
     }
-    say::fault(b"no help for that; type birdovesta help")
 }
 
 // A command by its name, or an answer.
-fn of_word(name: &[u8]) -> u8 {
-    if check::same(name, b"lessons") {
-        return lessons();
+fn of_word(name: &[u8]) -> Status {
+    match name {
+        b"lessons" => lessons(),
+        b"encode" => encode(),
+        b"complete" => complete(),
+        b"word" => word(),
+        b"line" => line(),
+        b"stream" => stream(),
+        b"lists" => lists(),
+        b"coax" => coax(),
+        b"help" => help(),
+        _ => of_answer(name),
     }
-    if check::same(name, b"encode") {
-        return encode();
-    }
-    if check::same(name, b"complete") {
-        return complete();
-    }
-    if check::same(name, b"word") {
-        return word();
-    }
-    if check::same(name, b"line") {
-        return line();
-    }
-    if check::same(name, b"stream") {
-        return stream();
-    }
-    if check::same(name, b"lists") {
-        return lists();
-    }
-    if check::same(name, b"coax") {
-        return coax();
-    }
-    if check::same(name, b"help") {
-        return help();
-    }
-    of_answer(name)
 }
 
 // help [COMMAND], help refusal [NUMBER], help ANSWER
-pub fn say(rt: &impl Env) -> u8 {
+pub fn say(rt: &impl Env) -> Status {
     let count = arguments::count(rt);
     if count == 2 {
         return all();
     }
     let mut word = [0u8; 16];
-    let n = arguments::word(rt, 2, &mut word);
-    if check::same(&word[..n], b"refusal") {
-        if count < 5 {
-            return of_refusals(rt);
-        }
+    match arguments::word(rt, 2, &mut word) {
+        b"refusal" if count < 5 => of_refusals(rt),
+        name if count == 3 => of_word(name),
+        _ => say::fault(b"help needs one word, or refusal NUMBER"),
     }
-    if count == 3 {
-        return of_word(&word[..n]);
-    }
-    say::fault(b"help needs one word, or refusal NUMBER")
 }

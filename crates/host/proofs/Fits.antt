@@ -16,8 +16,8 @@ use Rattle.rules.specs.declared.CoaxCode.{CoaxCode}
 use Rattle.rules.specs.declared.Cause.TheVariants.{Shortened, Check, Parity, Delimiter}
 use Rattle.rules.specs.declared.Verdict.{Verdict}
 use Rattle.rules.specs.declared.Verdict.TheVariants.{Accepted, Rejected}
-use Rattle.rules.specs.declared.Judgement.{Judgement}
-use Rattle.rules.specs.declared.Judgement.TheVariants.{Judged, Refused}
+use Rattle.rules.specs.Judgements.{Judgement}
+use Rattle.rules.specs.Judgements.{Judged, Refused}
 use Rattle.rules.proofs.CoaxLaws.{coax_numbers}
 use Rattle.laws.proofs.Told.{numbers_pass, told_passes}
 use Rattle.laws.proofs.Judged.{count_range}

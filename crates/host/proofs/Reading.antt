@@ -9,8 +9,8 @@ use borrow.Author.Tests.{ne_eqb, lt-ltb, le-ltb}
 use Rattle.rules.specs.declared.Cause.{Cause}
 use Rattle.rules.specs.declared.Cause.TheVariants.{Shortened, Check, Parity, Delimiter}
 use Rattle.rules.specs.declared.Verdict.TheVariants.{Accepted, Rejected}
-use Rattle.rules.specs.declared.Judgement.{Judgement}
-use Rattle.rules.specs.declared.Judgement.TheVariants.{Judged, Refused}
+use Rattle.rules.specs.Judgements.{Judgement}
+use Rattle.rules.specs.Judgements.{Judged, Refused}
 use Rattle.host.specs.Numbers.{number_of_cause, number_of_judgement, CauseFits, JudgementFits, read_cause, read_back}
 
 -- a number r with the cause c, the count m and the place n

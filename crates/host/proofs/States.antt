@@ -13,10 +13,10 @@ use Rattle.rules.specs.Formats.{Format}
 use Rattle.rules.specs.Streams.{fresh, Fed}
 use Rattle.rules.specs.Refusals.{Refusal}
 use Rattle.rules.specs.Promises.{refusal_of, Promise, TailWritten, PieceTaken}
-use Rattle.rules.specs.declared.Answer.{Answer}
-use Rattle.rules.specs.declared.Answer.TheVariants.{Done, Refused}
+use Rattle.rules.specs.Answers.{Answer}
+use Rattle.rules.specs.Answers.{Done, Refused}
 use Rattle.rules.specs.declared.Stream.{Stream}
-use Rattle.rules.specs.declared.Outcome.{Outcome}
+use Rattle.rules.specs.Answers.{Outcome}
 use Rattle.states.specs.States.{state_bytes, stream_in}
 use Rattle.host.specs.Numbers.{Answered}
 use Rattle.host.specs.Streams.{wrong_state, StatePiece, StateFinish}

@@ -2,8 +2,8 @@
 --
 --   Back a s s' t   where the answer a is Done, the state s' is the stream t; where it is a refusal, it is s
 use Rattle.std.specs.Prelude.{◌≡◌, List, ℕ, length}
-use Rattle.rules.specs.declared.Answer.{Answer}
-use Rattle.rules.specs.declared.Answer.TheVariants.{Done, Refused}
+use Rattle.rules.specs.Answers.{Answer}
+use Rattle.rules.specs.Answers.{Done, Refused}
 use Rattle.rules.specs.declared.Stream.{Stream}
 use Rattle.states.specs.States.{state_bytes, stream_in}
 

@@ -20,14 +20,14 @@ use Rattle.std.specs.Prelude.{◌≡◌, cond, List, ℕ, ◌+◌, ◌*◌, ◌/
 use Rattle.rules.specs.Formats.{fibre_format}
 use Rattle.rules.specs.Promises.{refusal_of, Encoded, WordChecked, LineChecked}
 use Rattle.rules.specs.Coax.{CoaxEncoded, CoaxChecked}
-use Rattle.rules.specs.declared.Answer.{Answer}
+use Rattle.rules.specs.Answers.{Answer}
 use Rattle.rules.specs.declared.Cause.{Cause}
 use Rattle.rules.specs.declared.Cause.TheVariants.{Shortened, Check, Parity, Delimiter}
 use Rattle.rules.specs.declared.Verdict.{Verdict}
 use Rattle.rules.specs.declared.Verdict.TheVariants.{Accepted, Rejected}
 use Rattle.rules.specs.declared.CoaxCode.{CoaxCode}
-use Rattle.rules.specs.declared.Judgement.{Judgement}
-use Rattle.rules.specs.declared.Judgement.TheVariants.{Judged, Refused}
+use Rattle.rules.specs.Judgements.{Judgement}
+use Rattle.rules.specs.Judgements.{Judged, Refused}
 
 abbrev pub number_of_cause : Cause → ℕ
 number_of_cause (Shortened n) = 1 * 2 ^ 32 + n

@@ -19,7 +19,7 @@ use Rattle.rules.specs.Streams.{fresh, Fed}
 use Rattle.rules.specs.Refusals.{Refusal, refusal, piece_order, finish_order}
 use Rattle.rules.specs.Promises.{Promise, TailWritten}
 use Rattle.rules.specs.Coax.{coax_format, coax_finish_order}
-use Rattle.rules.specs.declared.Answer.{Answer}
+use Rattle.rules.specs.Answers.{Answer}
 use Rattle.rules.specs.declared.CoaxCode.{CoaxCode}
 use Rattle.states.specs.States.{state_bytes, stream_in}
 use Rattle.host.specs.Numbers.{Answered}

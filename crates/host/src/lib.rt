@@ -8,17 +8,19 @@ pub mod stream_calls;
 ghost use Rattle.std.specs.Prelude.{◌≡◌};
 ghost use Rattle.host.specs.Numbers.{number_of_cause, number_of_verdict, number_of_judgement};
 ghost use Rattle.host.specs.Numbers.{CauseFits, VerdictFits, JudgementFits, HostEncoded, HostWord, HostLine};
+ghost use Rattle.rules.specs.Answers.{answer};
 ghost use Rattle.rules.specs.Promises.{refusal_of};
+ghost use Rattle.rules.specs.Judgements.{judgement};
 
-use rules::{Answer, Cause, Judgement, Verdict};
+use rules::{Cause, Refusal, Verdict};
 
 // The number of an answer. The benchmark's calls, in `measured`, tell theirs by it too.
-pub fn answer_number(answer: Answer) -> u64
-    ensures { result ≡ refusal_of answer }
+pub fn answer_number(answered: Result<(), Refusal>) -> u64
+    ensures { result ≡ refusal_of (answer answered) }
 {
-    match answer {
-        Answer::Done => 0,
-        Answer::Refused(number) => number as u64,
+    match answered {
+        Ok(()) => 0,
+        Err(refusal) => refusal.number() as u64,
     }
 }
 
@@ -44,13 +46,13 @@ fn verdict_number(verdict: Verdict) -> u64
     }
 }
 
-fn judgement_number(judgement: Judgement) -> u64
-    requires { JudgementFits judgement }
-    ensures { result ≡ number_of_judgement judgement }
+fn judgement_number(answered: Result<Verdict, Refusal>) -> u64
+    requires { JudgementFits (judgement answered) }
+    ensures { result ≡ number_of_judgement (judgement answered) }
 {
-    match judgement {
-        Judgement::Judged(verdict) => verdict_number(verdict),
-        Judgement::Refused(number) => number as u64,
+    match answered {
+        Ok(verdict) => verdict_number(verdict),
+        Err(why) => why.number() as u64,
     }
 }
 

@@ -1,30 +1,25 @@
 // The C boundary of streams, W9 of paper 02: the host keeps a stream's state, 400 bytes, and lends it to each call.
 ghost use Rattle.std.specs.Prelude.{◌≡◌, length};
+ghost use Rattle.rules.specs.Answers.{answer};
 ghost use Rattle.rules.specs.Promises.{refusal_of};
 ghost use Rattle.states.specs.States.{state_bytes};
 ghost use Rattle.host.specs.Streams.{HostPiece, HostFinish, HostCoaxPiece, HostCoaxFinish};
 ghost use Rattle.host.specs.HandedBack.{Back};
 
-use rules::{Answer, CoaxCode, Outcome};
+use rules::{CoaxCode, Refusal, Stream};
 
-// The refusal of a state of other than 400 bytes.
+// The refusal of a state of other than 400 bytes. It is the boundary's own, so no case of `Refusal`.
 const WRONG_STATE: u64 = 17;
 
-// Tells an outcome's answer by number. Only what is done writes to the state.
-fn hand_back(outcome: Outcome, state: &mut [u8]) -> u64
+// Tells an answer by number. Only what is done writes to the state.
+fn hand_back(answered: Result<(), Refusal>, stream: &Stream, state: &mut [u8]) -> u64
     requires { length state.old ≡ state_bytes }
-    ensures { (result ≡ refusal_of outcome.answer)
-        × Back outcome.answer state.old state.new outcome.stream }
+    ensures { (result ≡ refusal_of (answer answered)) × Back (answer answered) state.old state.new stream.now }
 {
-    let answer = outcome.answer;
-    match answer {
-        Answer::Done => {
-            let stream = outcome.stream;
-            states::write(state, stream);
-            0
-        }
-        Answer::Refused(number) => number as u64,
+    if answered.is_ok() {
+        states::write(state, stream);
     }
+    super::answer_number(answered)
 }
 
 // Takes a piece of a fibre stream.
@@ -41,8 +36,9 @@ pub fn birdovesta_stream_piece(
     if state.len() != states::BYTES {
         return WRONG_STATE;
     }
-    let outcome = stream::piece(states::read(state), bits, piece, first, second);
-    hand_back(outcome, state)
+    let mut stream = states::read(state);
+    let answered = stream::piece(&mut stream, bits, piece, first, second);
+    hand_back(answered, &stream, state)
 }
 
 // Finishes a fibre stream.
@@ -59,8 +55,9 @@ pub fn birdovesta_stream_finish(
     if state.len() != states::BYTES {
         return WRONG_STATE;
     }
-    let outcome = stream::finish(states::read(state), delimiter, first, second, tail);
-    hand_back(outcome, state)
+    let mut stream = states::read(state);
+    let answered = stream::finish(&mut stream, delimiter, first, second, tail);
+    hand_back(answered, &stream, state)
 }
 
 // Takes a piece of a stream of either coax code.
@@ -70,8 +67,9 @@ fn piece_by(code: CoaxCode, state: &mut [u8], bits: usize, piece: &[u8]) -> u64
     if state.len() != states::BYTES {
         return WRONG_STATE;
     }
-    let outcome = coax::piece(code, states::read(state), bits, piece);
-    hand_back(outcome, state)
+    let mut stream = states::read(state);
+    let answered = coax::piece(code, &mut stream, bits, piece);
+    hand_back(answered, &stream, state)
 }
 
 // Finishes a stream of either coax code.
@@ -81,11 +79,12 @@ fn finish_by(code: CoaxCode, state: &mut [u8], parity: &mut [u8]) -> u64
     if state.len() != states::BYTES {
         return WRONG_STATE;
     }
-    let outcome = coax::finish(code, states::read(state), parity);
-    hand_back(outcome, state)
+    let mut stream = states::read(state);
+    let answered = coax::finish(code, &mut stream, parity);
+    hand_back(answered, &stream, state)
 }
 
-// The two of the longer coax code.
+// The two of the longer coax code: C has a call for each code.
 pub fn birdovesta_stream_piece_16200(state: &mut [u8], bits: usize, piece: &[u8]) -> u64
     ensures { HostCoaxPiece CoaxCode.Long bits piece.now state.old result state.new }
 {

@@ -1,26 +1,72 @@
-// What is known of the file at a path: whether it could be asked, which file it is, its kind and mode, and whose it is.
+// What is known of the file at a path: which file it is, its kind and mode, and whose it is; or why the system does not
+// tell.
 #![tactic(auto)]
 
 pub mod linux;
 
-ghost use Rattle.std.specs.Prelude.{◌≤◌, length};
+ghost use Rattle.std.specs.Prelude.{◌≡◌, ◌≤◌, ◌↔◌, length, IfOk, IsTrue};
 
-use std::fs::{File, Metadata};
-use std::io::{Error, Result};
-use std::os::unix::fs::MetadataExt;
+use linux::Trouble;
+use std::fs::{File, FileType, Metadata};
+use std::os::unix::fs::{FileTypeExt, MetadataExt};
 use std::rt::{Env, Files};
 use std::{fs, str};
 
-// fine: the system answered, and error is 0. Else error says why, and the other numbers are 0.
+#[derive(Clone, Copy, PartialEq, Eq)]
+pub enum Kind {
+    File,
+    Folder,
+    Pipe,
+    Socket,
+    Device,
+}
+
+impl From<FileType> for Kind {
+    fn from(told: FileType) -> Kind {
+        if told.is_file() {
+            Kind::File
+        } else if told.is_dir() {
+            Kind::Folder
+        } else if told.is_fifo() {
+            Kind::Pipe
+        } else if told.is_socket() {
+            Kind::Socket
+        } else {
+            Kind::Device
+        }
+    }
+}
+
 #[derive(Clone, Copy)]
 pub struct Known {
-    pub fine: bool,
     pub device: u64,
     pub file: u64,
+    pub kind: Kind,
     pub mode: u32,
     pub owner: u32,
     pub group: u32,
-    pub error: i32,
+}
+
+impl Known {
+    // Whether this is the other file too, whatever the names that led to them.
+    pub fn is_same(self, other: Known) -> bool
+        ensures { IsTrue result ↔ (self.device ≡ other.device) × (self.file ≡ other.file) }
+    {
+        self.device == other.device && self.file == other.file
+    }
+}
+
+impl From<Metadata> for Known {
+    fn from(answer: Metadata) -> Known {
+        Known {
+            device: answer.dev(),
+            file: answer.ino(),
+            kind: Kind::from(answer.file_type()),
+            mode: answer.mode(),
+            owner: answer.uid(),
+            group: answer.gid(),
+        }
+    }
 }
 
 // What the program asks of the system that it runs on.
@@ -31,20 +77,20 @@ impl<R: Files<File = File> + Env + Alloc + Clone + Drop> System for R {}
 // The longest path that the system takes. It puts a 0 after it.
 const LONGEST: usize = 4095;
 
-// A path as the system is handed it. One that is too long for it is left out.
-fn fitting(path: &[u8]) -> &[u8]
-    ensures { length result.now ≤ 4095 }
+// A path as the system is handed it. One that is too long for it is that of no file.
+fn fitting(path: &[u8]) -> Result<&[u8], Trouble>
+    ensures { IfOk result (λ fitted. length fitted.now ≤ 4095) }
 {
     if LONGEST < path.len() {
-        return &path[..0];
+        return Err(Trouble::Missing);
     }
-    path
+    Ok(path)
 }
 
 // The path of the folder that has the file at a path.
 fn folder(path: &[u8]) -> &[u8] {
     match path.iter().rposition(|byte| *byte == b'/') {
-        Some(at) => &path[..at + 1],
+        Some(at) => &path[..=at],
         None => b".",
     }
 }
@@ -52,74 +98,36 @@ fn folder(path: &[u8]) -> &[u8] {
 // Whether each name in a folder is text, or there is no folder. Other names are not told.
 fn has_texts(rt: &impl System, folder: &str) -> bool {
     match fs::read_dir(rt, folder) {
-        Ok(entries) => {
-            for entry in entries {
-                if entry.is_err() {
-                    return false;
-                }
-            }
-            true
-        }
-        Err(error) => {
-            let number = linux::number(error);
-            number == linux::ENOENT || number == linux::ENOTDIR
-        }
+        Ok(mut entries) => entries.all(|entry| entry.is_ok()),
+        Err(error) => Trouble::from(error).is_absence(),
     }
 }
 
 // Whether there can be no file at a path that is no text.
 fn is_missing(rt: &impl System, path: &[u8]) -> bool {
-    match str::from_utf8(folder(path)) {
-        Ok(folder) => has_texts(rt, folder),
-        Err(_) => false,
-    }
+    str::from_utf8(folder(path)).is_ok_and(|folder| has_texts(rt, folder))
 }
 
-// A path as text, which alone the system's calls take here. One that is none can be told to be missing, or else is
-// EILSEQ.
-pub fn text<'a>(rt: &impl System, path: &'a [u8]) -> Result<&'a str> {
-    match str::from_utf8(path) {
-        Ok(text) => Ok(text),
-        Err(_) => {
-            if is_missing(rt, path) {
-                return Err(Error::from_raw_os_error(linux::ENOENT));
-            }
-            Err(Error::from_raw_os_error(linux::EILSEQ))
+// A path as text, which alone the system's calls take here. One that is none can be told to be missing, or else is of
+// no use.
+pub fn text<'a>(rt: &impl System, path: &'a [u8]) -> Result<&'a str, Trouble> {
+    str::from_utf8(path).map_err(|_| {
+        if is_missing(rt, path) {
+            Trouble::Missing
+        } else {
+            Trouble::NoText
         }
-    }
+    })
 }
 
 // What the system answers.
-fn ask(rt: &impl System, path: &[u8]) -> Result<Metadata>
+fn ask(rt: &impl System, path: &[u8]) -> Result<Metadata, Trouble>
     requires { length path.now ≤ 4095 }
 {
-    fs::metadata(rt, text(rt, path)?)
-}
-
-fn blank(error: i32) -> Known {
-    Known {
-        fine: false,
-        device: 0,
-        file: 0,
-        mode: 0,
-        owner: 0,
-        group: 0,
-        error: error,
-    }
+    Ok(fs::metadata(rt, text(rt, path)?)?)
 }
 
 // Follows links.
-pub fn at(rt: &impl System, path: &[u8]) -> Known {
-    match ask(rt, fitting(path)) {
-        Ok(answer) => Known {
-            fine: true,
-            device: answer.dev(),
-            file: answer.ino(),
-            mode: answer.mode(),
-            owner: answer.uid(),
-            group: answer.gid(),
-            error: 0,
-        },
-        Err(error) => blank(linux::number(error)),
-    }
+pub fn at(rt: &impl System, path: &[u8]) -> Result<Known, Trouble> {
+    ask(rt, fitting(path)?).map(Known::from)
 }

@@ -1,57 +1,70 @@
-// Linux's numbers of what may be wrong with a file, and of the kinds of files in a mode.
-ghost use Rattle.std.specs.Prelude.{◌≢◌, pos};
+// What may be wrong with a file, by Linux's numbers. std's ErrorKind has one kind for EPERM and EACCES, of which the
+// program says different words.
+ghost use Rattle.std.specs.Prelude.{◌≡◌, ◌↔◌, ◌⊎◌, IsTrue};
 
 use std::io::Error;
 
-pub const EPERM: i32 = 1;
+const EPERM: i32 = 1;
 
-pub const ENOENT: i32 = 2;
+const ENOENT: i32 = 2;
 
-pub const EIO: i32 = 5;
+const EACCES: i32 = 13;
 
-pub const EACCES: i32 = 13;
+const EEXIST: i32 = 17;
 
-pub const EEXIST: i32 = 17;
+const ENOTDIR: i32 = 20;
 
-pub const ENOTDIR: i32 = 20;
+const EISDIR: i32 = 21;
 
-pub const EISDIR: i32 = 21;
+const EFBIG: i32 = 27;
 
-pub const EFBIG: i32 = 27;
+const ENOSPC: i32 = 28;
 
-pub const ENOSPC: i32 = 28;
+const EROFS: i32 = 30;
 
-pub const EROFS: i32 = 30;
+const ENAMETOOLONG: i32 = 36;
 
-pub const ENAMETOOLONG: i32 = 36;
+const ELOOP: i32 = 40;
 
-pub const ELOOP: i32 = 40;
+// Missing: nothing has the name. NoFolder: what has to be a folder in the path is none. NoText: the name is no text in
+// UTF-8.
+#[derive(Clone, Copy, PartialEq, Eq)]
+pub enum Trouble {
+    Missing,
+    NoFolder,
+    Denied,
+    Folder,
+    NotPermitted,
+    InTheWay,
+    NoRoom,
+    TooManyLinks,
+    LongName,
+    NoText,
+    Other,
+}
 
-// A name is no text in UTF-8.
-pub const EILSEQ: i32 = 84;
+impl Trouble {
+    // Whether it is that there is no such file.
+    pub fn is_absence(self) -> bool
+        ensures { IsTrue result ↔ (self ≡ Trouble.Missing) ⊎ (self ≡ Trouble.NoFolder) }
+    {
+        matches!(self, Trouble::Missing | Trouble::NoFolder)
+    }
+}
 
-// The bits of a mode that have the kind, and the kinds.
-pub const S_IFMT: u32 = 0o170000;
-
-pub const S_IFIFO: u32 = 0o010000;
-
-pub const S_IFDIR: u32 = 0o040000;
-
-pub const S_IFREG: u32 = 0o100000;
-
-pub const S_IFSOCK: u32 = 0o140000;
-
-// An error's number, never 0. One that the system has not told is EIO.
-pub fn number(error: Error) -> i32
-    ensures { result ≢ pos 0 }
-{
-    match error.raw_os_error() {
-        Some(number) => {
-            if number == 0 {
-                return EIO;
-            }
-            number
+impl From<Error> for Trouble {
+    fn from(error: Error) -> Trouble {
+        match error.raw_os_error() {
+            Some(ENOENT) => Trouble::Missing,
+            Some(ENOTDIR) => Trouble::NoFolder,
+            Some(EACCES | EROFS) => Trouble::Denied,
+            Some(EISDIR) => Trouble::Folder,
+            Some(EPERM) => Trouble::NotPermitted,
+            Some(EEXIST) => Trouble::InTheWay,
+            Some(ENOSPC | EFBIG) => Trouble::NoRoom,
+            Some(ELOOP) => Trouble::TooManyLinks,
+            Some(ENAMETOOLONG) => Trouble::LongName,
+            _ => Trouble::Other,
         }
-        None => EIO,
     }
 }

@@ -4,30 +4,20 @@
 --   spot_below     what a block takes of bits is a bit
 --   term_same      so does a term, and
 --   term_below     a term of a word of bits is a bit
---   entry_none     an entry whose 16 bits are below 0 is that of a zero block
---   entry_some     any other is its turn, and
---   turn_fits      the cast to the turn loses nothing
---   turn_proper    and the turn of a proper entry is below the block size
 --   check_column   a check of block j of a word alone is that column's term
 --   check_past     a check past the last row is 0
-use borrow.Author.Tests.{ltb-true}
 use mathlib.Core.Path.{◌≡◌, refl, ap, ◌∙◌}
-use mathlib.Core.Bool.{true, false}
 use mathlib.Core.List.{[]}
 use Prim.Native.Nat.{ℕ, ◌+◌, ◌-◌, ◌*◌, ◌/◌, ◌%◌, ◌≤◌, ◌<◌}
-use native.Mathlib.Nat.{mod-lt, not-suc-le-zero, mul_comm, zero-mul, le-div_iff_mul-le}
+use native.Mathlib.Nat.{mod-lt, mul_comm, zero-mul, le-div_iff_mul-le}
 use native.Mathlib.Decide.{dec_lt}
 use native.Mathlib.Omega.{arith}
-use lib.Dec.{T, ltb→lt, lit<}
-use lib.IntN.{ℤ, pos, negsuc, nat_abs}
+use lib.Dec.{lit<}
+use lib.IntN.{ℤ, pos, negsuc}
 use lib.ListN.{length, get_or, get_or-eq_default}
-use lib.Signed.{lt_z, non_neg}
-use mir.Facts.{to_z-of_z, Fits-nat_abs}
-use mir.Syntax.{w16, w64}
-use mir.Val.{SFits, Fits, to_z, of_z}
 use Rattle.rules.specs.Bits.{zeros, placed}
 use Rattle.rules.specs.Matrix.{Code, places, checks, entry, one, check}
-use Rattle.rules.specs.Terms.{proper, spot, through, term}
+use Rattle.rules.specs.Terms.{spot, through, term}
 use Rattle.rules.proofs.Sums.{total_none, total_one}
 use Rattle.rules.proofs.Checks.{block_some, block_below, place_below, check_columns}
 use Rattle.laws.proofs.Runs.{placed_below, placed_in, placed_above}
@@ -44,35 +34,6 @@ spot_below z (negsuc n) f r bits = lit< tt
 spot_zeros : (z : ℕ) (a : ℤ) (r : ℕ) → spot z a zeros r ≡ 0
 spot_zeros z (pos a) r = refl
 spot_zeros z (negsuc n) r = refl
-
-below_zero : (z : ℤ) → lt_z z (pos 0) ≡ true → (n : ℕ) × (z ≡ negsuc n)
-below_zero (pos a) h = absurd (not-suc-le-zero (ltb-true a 0 h))
-below_zero (negsuc n) h = (n, refl)
-
-from_zero : (z : ℤ) → lt_z z (pos 0) ≡ false → T (non_neg z) × (z ≡ pos (nat_abs z))
-from_zero (pos a) h = (tt, refl)
-from_zero (negsuc n) h = let z : ◌≡◌ {A = ℕ} 0 1 = cc in absurd (omega arith)
-
--- an entry that is passed on, as its 16 bits are read
-abbrev told : ℤ → ℤ
-told a = to_z w16 (of_z w16 a)
-
-pub turn_fits : {a : ℤ} → SFits w16 a → lt_z (told a) (pos 0) ≡ false → T (non_neg (told a))
-    × Fits w64 (nat_abs (told a))
-turn_fits {a} fits t = rw (to_z-of_z fits) ((from_zero a (rw (to_z-of_z fits) at t)).0, Fits-nat_abs tt fits)
-
-module _ {a e : ℤ} (fits : SFits w16 a) (same : a ≡ e) where
-  read : told a ≡ e
-  read = to_z-of_z fits ∙ same
-
-  pub entry_none : lt_z (told a) (pos 0) ≡ true → (n : ℕ) × (e ≡ negsuc n)
-  entry_none t = below_zero e (rw read at t)
-
-  pub entry_some : lt_z (told a) (pos 0) ≡ false → e ≡ pos (nat_abs (told a))
-  entry_some t = rw read (from_zero e (rw read at t)).1
-
-pub turn_proper : (z : ℕ) {a : ℤ} {m : ℕ} → T (proper z a) → a ≡ pos m → m < z
-turn_proper z {a} {m} p e = ltb→lt m z (rw e at p)
 
 module _ (c : Code) (h : 0 < c.size) (n : ℕ) where
   pub term_same : (x y : ℕ → ℕ) (j : ℕ) → ((t : ℕ) → t < c.size → x (c.size * j + t) ≡ y (c.size * j + t))

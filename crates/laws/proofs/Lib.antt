@@ -7,6 +7,7 @@ pub mod Around
 pub mod Columns
 pub mod Running
 pub mod Told
+pub mod Results
 pub mod Reorderings
 pub mod Lent
 pub mod Judged

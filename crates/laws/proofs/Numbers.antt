@@ -10,7 +10,6 @@
 --   digit_joined    a number of b bits, and m bits that another has at the places from b on, joined by an or
 --   digit_across    the n digits from t on of two numbers of n digits, one after the other; the second moves by 1, then
 --                   by n - 1 - t
---   digit_twice     twice a number and one bit more: that bit, then the number's digits, all as in f from p on
 --   ones_digits     the ones of a number of n bits are its n digits added up
 --   trailing_clear  the digits below the lowest 1 of a number's n lowest are 0
 --   trailing_set    and that one is 1, if it is there
@@ -138,17 +137,6 @@ halves x k = let e : k + 1 ≡ suc k = omega arith in digit_right x 1 k ∙ ap (
 
 first_digit : (x : ℕ) → x % 2 ≡ digit x 0
 first_digit x = rw div-one
-
-pub digit_twice : (x d n p : ℕ) (f : ℕ → ℕ) → d ≡ f p → d < 2 → ((t : ℕ) → t < n → digit x t ≡ f (p + 1 + t))
-    → (t : ℕ) → t < n + 1 → digit (2 * x + d) t ≡ f (p + t)
-digit_twice x d n p f e small rest zero h =
-    let one : (2 * x + d) % 2 ≡ d = omega arith in
-    let same : p ≡ p + 0 = omega arith in
-    sym (first_digit (2 * x + d)) ∙ one ∙ e ∙ ap f same
-digit_twice x d n p f e small rest (suc t) h =
-    let half : (2 * x + d) / 2 ≡ x = omega arith in
-    let same : p + 1 + t ≡ p + suc t = omega arith in
-    sym (halves (2 * x + d) t) ∙ rw half (rest t (omega arith)) ∙ ap f same
 
 pub ones_digits : (n x : ℕ) → x < 2 ^ n → ones x ≡ total n (digit x)
 unfolding total

@@ -6,8 +6,6 @@
 --                       applies: none, or test a rest, with what the first one tells
 --   told_tested         then the first of xs that is not 0 is what the order tells
 --   told_left           where none is told, the first refusal does not apply, and none of the rest is told
---   told_more           what an order tells is told where others follow it
---   told_next           where it tells none, what those that follow tell is told
 --   refusal_of_law o k  when the refusal numbered k of the order o applies
 --   numbers_pass f o    every number of the order o passes the test f
 --   told_passes         so does the number that it tells, if 0 does
@@ -21,7 +19,7 @@
 use mathlib.Core.Path.{◌≡◌, refl, sym, ap, subst, ◌∙◌}
 use mathlib.Core.Bool.{Bool, true, false, cond}
 use mathlib.Core.Logic.{inl, inr, ⊎_elim}
-use mathlib.Core.List.{List, [], ◌∷◌, ◌++◌}
+use mathlib.Core.List.{List, [], ◌∷◌}
 use Prim.Native.Nat.{ℕ, ◌<◌}
 use native.Mathlib.Decide.{ℕ_discrete}
 use native.Mathlib.Omega.{arith}
@@ -30,12 +28,12 @@ use borrow.Author.Tests.{eq-eqb, ne_eqb}
 use Rattle.rules.specs.Refusals.{Refusal, tells}
 use Rattle.rules.specs.Promises.{refusal_of, by, Promise, Checked}
 use Rattle.rules.specs.Terms.{first_of, FirstTold}
-use Rattle.rules.specs.declared.Answer.{Answer}
-use Rattle.rules.specs.declared.Answer.TheVariants.{Done, Refused}
+use Rattle.rules.specs.Answers.{Answer}
+use Rattle.rules.specs.Answers.{Done, Refused}
 use Rattle.rules.specs.declared.Verdict.{Verdict}
-use Rattle.rules.specs.declared.Judgement.{Judgement}
+use Rattle.rules.specs.Judgements.{Judgement}
 use Rattle.rules.proofs.Tests.{both, both_left, both_right}
-use Rattle.rules.specs.declared.Judgement.TheVariants as judgement
+use Rattle.rules.specs.Judgements as judgement
 
 abbrev pub Single : (ℕ → Type 0) → Type 0
 Single P = (r s : ℕ) → P r → P s → r ≡ s
@@ -73,17 +71,6 @@ rest_numbered t o h = both_right (ltb 0 t.number) (numbered o) h
 pub told_left : (t : Refusal) (o p : List Refusal) → T (numbered (t ∷ o)) → {r : ℕ} → r ≡ 0 → tells (t ∷ p) r
     → (t.applies → ⊥) × tells p r
 told_left t o p h e x = ⊎_elim (λ a. absurd (omega (arith, a.1, first_numbered t o h))) (λ b. b) x
-
-pub told_more : (o p : List Refusal) (r : ℕ) → (r ≡ 0 → ⊥) → tells o r → tells (o ++ p) r
-told_more [] p r d x = absurd (d x)
-told_more (t ∷ o) p r d x = ⊎_elim inl (λ b. inr (b.0, told_more o p r d b.1)) x
-
-pub told_next : (o p : List Refusal) → T (numbered o) → {r : ℕ} → r ≡ 0 → tells o r → (s : ℕ) → tells p s
-    → tells (o ++ p) s
-told_next [] p h e x s y = y
-told_next (t ∷ o) p h e x s y =
-    let l = told_left t o o h e x in
-    inr (l.0, told_next o p (rest_numbered t o h) e l.1 s y)
 
 pub data Tested : List Refusal → List ℕ → Type 1 where
   none : Tested [] []

@@ -1,8 +1,10 @@
 // How many of what was tried is right, and how many wrong.
-ghost use Rattle.std.specs.Prelude.{◌≡◌};
+ghost use Rattle.std.specs.Prelude.{◌≡◌, ◌≤◌, length};
+ghost use Rattle.answers.specs.Answers.{Told};
+ghost use Rattle.answers.specs.Statuses.{number_of};
 ghost use Rattle.lessons.specs.Tallies.{none, one_more, counted};
 
-use answers::Said;
+use answers::{Said, Status};
 use console::say;
 
 // status: the worst exit status of the lines said so far.
@@ -10,7 +12,7 @@ use console::say;
 pub struct Tally {
     pub right: usize,
     pub wrong: usize,
-    pub status: u8,
+    pub status: Status,
 }
 
 pub fn new() -> Tally
@@ -19,7 +21,7 @@ pub fn new() -> Tally
     Tally {
         right: 0,
         wrong: 0,
-        status: 0,
+        status: Status::Fine,
     }
 }
 
@@ -27,34 +29,37 @@ pub fn new() -> Tally
 pub fn more(count: usize) -> usize
     ensures { result ≡ one_more count }
 {
-    if count < usize::MAX {
-        return count + 1;
-    }
-    count
+    count.saturating_add(1)
 }
 
-// Counts what was right or wrong, and was said with this status.
-pub fn count(tally: Tally, right: bool, status: u8) -> Tally
+// Counts what was right or wrong, and was said with this status. By value: the reading of a file of vectors holds a
+// tally that it hands on.
+pub fn count(tally: Tally, right: bool, status: Status) -> Tally
     ensures { result ≡ counted tally right status }
 {
-    let worst = say::worse(tally.status, status);
+    let mut later = tally;
     if right {
-        return Tally {
-            right: more(tally.right),
-            wrong: tally.wrong,
-            status: worst,
-        };
+        later.right = more(tally.right);
+    } else {
+        later.wrong = more(tally.wrong);
     }
-    Tally {
-        right: tally.right,
-        wrong: more(tally.wrong),
-        status: worst,
+    later.status = tally.status.max(status);
+    later
+}
+
+impl Tally {
+    // Says the line of a lesson, and counts it.
+    pub fn lesson(&mut self, is_right: bool, name: &[u8])
+        requires { length name.now ≤ 50 }
+        ensures { (status : Status) × Told 0 (number_of status) × (self.new ≡ counted self.old is_right status) }
+    {
+        *self = count(*self, is_right, say::lesson(is_right, name));
     }
 }
 
-// Says the totals. The status is 1 where anything was wrong.
-pub fn total(tally: Tally) -> u8 {
+// Says the totals. The status is Wrong or worse where anything was wrong.
+pub fn total(tally: Tally) -> Status {
     let right = say::answer(Said::Right(tally.right));
     let wrong = say::answer(Said::Wrong(tally.wrong));
-    say::worse(tally.status, say::worse(right, wrong))
+    tally.status.max(right).max(wrong)
 }

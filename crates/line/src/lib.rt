@@ -10,21 +10,24 @@ ghost use Rattle.rules.specs.Formats.{fibre_kept, fibre_format};
 ghost use Rattle.rules.specs.Words.{padded, reordered, Parity, line_bits};
 ghost use Rattle.rules.specs.Verdicts.{TailVerdict, LineVerdict};
 ghost use Rattle.rules.specs.Asked.{EncodeAsks, LineAsks};
+ghost use Rattle.rules.specs.Answers.{answer};
+ghost use Rattle.rules.specs.Judgements.{judgement};
 ghost use Rattle.rules.specs.Promises.{LineWritten, Encoded, LineChecked};
 ghost use Rattle.rules.specs.Terms.{by_first, by_second};
 
-use rules::{Answer, Cause, Judgement, Verdict, fibre};
+use rules::{Cause, Refusal, Verdict, fibre};
 
 // Finds the parity of a payload, so many first bits of some bytes, whatever stands after them there.
-fn find_parity(count: usize, payload: &[u8], first: &[u8], parity: &mut [u8])
-    requires { (count ≤ fibre_kept.most) × (count ≤ 8 * length payload.now) × Listed (places_of_payload fibre) first.now
-        × (length parity.old ≡ need (checks fibre)) }
-    ensures { Parity fibre (reordered (by_first first.now) (padded count (bit payload.now)))
-        parity.new }
+fn find_parity(count: usize, payload: &[u8], first: &[u8]) -> [u8; fibre::PARITY_BYTES]
+    requires { (count ≤ fibre_kept.most) × (count ≤ 8 * length payload.now)
+        × Listed (places_of_payload fibre) first.now }
+    ensures { Parity fibre (reordered (by_first first.now) (padded count (bit payload.now))) result }
 {
     let mut sums = [0u8; fibre::PARITY_BYTES];
     running::fibre::add_piece(&mut sums, 0, count, payload, first);
-    parity::solve(&sums, parity);
+    let mut parity = [0u8; fibre::PARITY_BYTES];
+    parity::solve(&sums, &mut parity);
+    parity
 }
 
 // Writes a line word.
@@ -40,8 +43,7 @@ fn write(
     ensures { LineWritten (fibre_format first.now second.now) count payload.now delimiter
         line.old line.new }
 {
-    let mut parity = [0u8; fibre::PARITY_BYTES];
-    find_parity(count, payload, first, &mut parity);
+    let parity = find_parity(count, payload, first);
     writing::write_payload(line, count + fibre::TAIL_BITS, count, payload);
     writing::add_tail(line, count, &parity, delimiter, second);
 }
@@ -54,42 +56,37 @@ pub fn encode(
     first: &[u8],
     second: &[u8],
     line: &mut [u8],
-) -> Answer
+) -> Result<(), Refusal>
     ensures { Encoded (fibre_format first.now second.now) count payload.now delimiter
-        line.old result line.new }
+        line.old (answer result) line.new }
 {
-    let refusal = refusals::encode(count, payload, delimiter, first, second, line.len());
-    if refusal != 0 {
-        return Answer::Refused(refusal);
-    }
+    refusals::encode(count, payload, delimiter, first, second, line.len())?;
     write(count, payload, delimiter, first, second, line);
-    Answer::Done
+    Ok(())
 }
 
 // Compares a line word's tail with the parity and the delimiter: the parity comes first.
-fn compare(count: usize, line: &[u8], parity: &[u8], delimiter: usize, second: &[u8]) -> Verdict
+fn compare(
+    count: usize,
+    line: &[u8],
+    parity: &[u8; fibre::PARITY_BYTES],
+    delimiter: usize,
+    second: &[u8],
+) -> Verdict
     requires { (count ≤ fibre_kept.most) × (line_bits fibre_kept count ≤ 8 * length line.now)
-        × (length parity.now ≡ need (checks fibre)) × Listed (checks fibre) second.now }
+        × Listed (checks fibre) second.now }
     ensures { TailVerdict (by_second second.now) count line.now delimiter parity.now result }
 {
-    let mut sent = [0u8; fibre::SENT_BYTES];
-    writing::pick_sent(&mut sent, parity, second);
-    let place = bits::first_difference(line, count, &sent, 0, fibre::SENT_PLACES);
-    if place < fibre::SENT_PLACES {
+    let sent = writing::pick_sent(parity, second);
+    if let Some(place) = bits::first_difference(line, count, &sent, 0, fibre::SENT_PLACES) {
         return Verdict::Rejected(Cause::Parity(place));
     }
     let digits = writing::digits_of(delimiter);
-    let digit = bits::first_difference(
-        line,
-        count + fibre::SENT_PLACES,
-        &digits,
-        0,
-        fibre::DELIMITER_PLACES,
-    );
-    if digit < fibre::DELIMITER_PLACES {
-        return Verdict::Rejected(Cause::Delimiter(digit));
+    let from = count + fibre::SENT_PLACES;
+    match bits::first_difference(line, from, &digits, 0, fibre::DELIMITER_PLACES) {
+        Some(digit) => Verdict::Rejected(Cause::Delimiter(digit)),
+        None => Verdict::Accepted,
     }
-    Verdict::Accepted
 }
 
 // The verdict on a line word.
@@ -97,18 +94,20 @@ fn judge(count: usize, line: &[u8], delimiter: usize, first: &[u8], second: &[u8
     requires { LineAsks (fibre_format first.now second.now) count line.now delimiter }
     ensures { LineVerdict (fibre_format first.now second.now) count line.now delimiter result }
 {
-    let mut parity = [0u8; fibre::PARITY_BYTES];
-    find_parity(count, line, first, &mut parity);
+    let parity = find_parity(count, line, first);
     compare(count, line, &parity, delimiter, second)
 }
 
 // Checks a line word with so many payload bits.
-pub fn check(count: usize, line: &[u8], delimiter: usize, first: &[u8], second: &[u8]) -> Judgement
-    ensures { LineChecked (fibre_format first.now second.now) count line.now delimiter result }
+pub fn check(
+    count: usize,
+    line: &[u8],
+    delimiter: usize,
+    first: &[u8],
+    second: &[u8],
+) -> Result<Verdict, Refusal>
+    ensures { LineChecked (fibre_format first.now second.now) count line.now delimiter (judgement result) }
 {
-    let refusal = refusals::check_line(count, line, delimiter, first, second);
-    if refusal != 0 {
-        return Judgement::Refused(refusal);
-    }
-    Judgement::Judged(judge(count, line, delimiter, first, second))
+    refusals::check_line(count, line, delimiter, first, second)?;
+    Ok(judge(count, line, delimiter, first, second))
 }

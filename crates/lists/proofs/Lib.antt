@@ -1,4 +1,3 @@
-mod Filling
 mod Marking
 mod Picking
 pub mod Shortened

@@ -1,31 +1,42 @@
 -- Laws of bits that are picked by a list, and of a mask.
 --
---   named_at       one of eight entries from 8 i on is there, and names a place
---   names_within   so are fewer entries, of more places
+--   bit_more       one bit more of a number
 --   kept_byte      a byte of a mask that is joined by an and
 --   shortened      the first 1 of the shortened places, picked into inner order and kept where w is 1
-use mathlib.Core.Path.{◌≡◌, ◌∙◌}
+use mathlib.Core.Path.{◌≡◌, refl, ap, ◌∙◌}
 use mathlib.Core.List.{List}
-use Prim.Native.Nat.{ℕ, min, ◌+◌, ◌-◌, ◌*◌, ◌≤◌, ◌<◌}
+use Prim.Native.Nat.{ℕ, min, ◌+◌, ◌-◌, ◌*◌, ◌%◌, ◌^◌, ◌≤◌, ◌<◌}
 use native.Mathlib.Decide.{dec_lt}
+use native.Mathlib.Nat.{div-one}
 use native.Mathlib.Omega.{arith}
-use lib.Bits.{bit_and}
+use lib.Bits.{bit_and, bit_or}
 use lib.ListN.{length, get_or, replicate, length-replicate}
-use Rattle.rules.specs.Bits.{bit, placed, Adds}
+use Rattle.rules.specs.Bits.{bit, zeros, run, placed, Adds}
 use Rattle.rules.specs.Lists.{entry_of}
 use Rattle.rules.specs.Words.{digit}
 use Rattle.laws.proofs.Bits.{bit<, bit_and_law, bit_digit, bit_ones}
-use Rattle.laws.proofs.Runs.{placed_in, placed_above}
+use Rattle.laws.proofs.Numbers.{digit_high, digit_left, digit_joined}
+use Rattle.laws.proofs.Runs.{run_same, run_each, placed_in, placed_above}
 use Rattle.bits.specs.Searches.{FirstSet}
 use Rattle.lists.specs.Picked.{Names, Picked, Kept, FirstShortened}
 
-pub named_at : {l : List ℕ} (i : ℕ) {m : ℕ} → Names l (8 * i + 8) m → (k : ℕ) → k < 8
-    → (2 * (8 * i + k) + 1 < length l) × (entry_of l (8 * i + k) < m)
-named_at i h k b = (omega (arith, h.long), h.below (8 * i + k) (omega arith))
+digit_first : (b : ℕ) → b < 2 → digit b 0 ≡ b
+digit_first b h = rw div-one (omega arith)
 
-pub names_within : (l : List ℕ) (k n m m' : ℕ) → k ≤ n → m ≤ m' → Names l n m → Names l k m'
-names_within l k n m m' b d h =
-    record { long = omega (arith, h.long); below = λ t q. omega (arith, h.below t (omega arith)) }
+-- a number of k bits, and one bit b more
+module _ (f : ℕ → ℕ) (bits : (t : ℕ) → f t < 2) (x b k : ℕ) (small : b < 2) where
+  above : (t : ℕ) → b ≡ f k → t < 8 → digit (b * 2 ^ k % 2 ^ 8) t ≡ placed k 1 (λ i. f (k + i)) t
+  above t e h =
+      digit_left b k 8 t h
+      ∙ run_same k zeros (digit b) zeros (run 1 (λ i. f (k + i)) zeros) (λ n l. refl)
+      (λ n. run_each 1 (λ i. f (k + i)) zeros n (λ v. digit b n ≡ v)
+      (λ l. let first : n ≡ 0 = omega arith in
+      rw first (digit_first b small ∙ e ∙ ap f (omega arith)))
+      (λ l. digit_high b 1 n small l)) t
+
+  pub bit_more : b ≡ f k → ((t : ℕ) → t < 8 → digit x t ≡ run k f zeros t)
+      → (t : ℕ) → t < 8 → digit (bit_or x (b * 2 ^ k % 2 ^ 8)) t ≡ run (k + 1) f zeros t
+  bit_more e before t h = digit_joined x _ k 1 f bits t (before t h) (above t e h)
 
 -- x is byte i of s as it was
 pub kept_byte : (s w : List ℕ) (i x : ℕ) → x ≡ get_or s i 0 → (t : ℕ) → t < 8

@@ -1,9 +1,9 @@
-// Lists that reorder places: read, made, tested, and used to pick bits. An entry is two bytes, the low byte first.
+// Lists that reorder places: read, made, tested, and used to pick bits. An entry is two bytes, the low byte first, and
+// is known by its number.
 // Its functions serve the crates above, which show what they require; no user calls them.
 #![tactic(auto)]
 
-ghost use Rattle.std.specs.Prelude.{◌≡◌, ℕ, min, ◌+◌, ◌*◌, ◌%◌, ◌≤◌, ◌<◌, length, get_or};
-ghost use Rattle.rules.specs.Bits.{bit};
+ghost use Rattle.std.specs.Prelude.{◌≡◌, ℕ, ◌+◌, ◌*◌, ◌≤◌, ◌<◌, length, get_or, unwrap_or, IfSome};
 ghost use Rattle.rules.specs.Lists.{entry_of, Plain};
 ghost use Rattle.rules.specs.Matrix.{places_of_payload};
 ghost use Rattle.rules.specs.Table.{fibre};
@@ -12,48 +12,24 @@ ghost use Rattle.lists.specs.Picked.{Marked, AllMarked, Tested, FirstFault};
 
 use rules::fibre;
 
-fn near(byte: u8) -> usize
-    ensures { (result ≡ byte) × (result < 256) }
-{
-    byte as usize
-}
-
-fn lowest(number: usize) -> u8
-    ensures { result ≡ number % 256 }
-{
-    (number % 256) as u8
-}
-
 // Entry t of a list.
 fn entry(list: &[u8], t: usize) -> usize
     requires { 2 * t + 1 < length list.now }
     ensures { result ≡ entry_of list.now t }
 {
-    near(list[2 * t]) + 256 * near(list[2 * t + 1])
+    usize::from(u16::from_le_bytes([list[2 * t], list[2 * t + 1]]))
 }
 
-// The bit of `from` that entry t names.
-fn bit_named(list: &[u8], from: &[u8], t: usize) -> usize
-    requires { (2 * t + 1 < length list.now) × (entry_of list.now t < 8 * length from.now) }
-    ensures { (result ≡ bit from.now (entry_of list.now t)) × (result < 2) }
-{
-    near(bits::bit_at(from, entry(list, t)))
-}
-
-// The bits that eight entries name, from entry 8 i on, as a byte. They are spelt out, so that no loop is left.
+// The bits that eight entries name, from entry 8 i on, as a byte.
 fn byte_named(list: &[u8], from: &[u8], i: usize) -> u8
     requires { Names list.now (8 * i + 8) (8 * length from.now) }
     ensures { PickedByte list.now from.now i result }
 {
-    let sum = bit_named(list, from, 8 * i + 7);
-    let sum = 2 * sum + bit_named(list, from, 8 * i + 6);
-    let sum = 2 * sum + bit_named(list, from, 8 * i + 5);
-    let sum = 2 * sum + bit_named(list, from, 8 * i + 4);
-    let sum = 2 * sum + bit_named(list, from, 8 * i + 3);
-    let sum = 2 * sum + bit_named(list, from, 8 * i + 2);
-    let sum = 2 * sum + bit_named(list, from, 8 * i + 1);
-    let sum = 2 * sum + bit_named(list, from, 8 * i + 0);
-    lowest(sum)
+    let mut byte: u8 = 0;
+    for k in 0..8 {
+        byte |= bits::bit_at(from, entry(list, 8 * i + k)) << k;
+    }
+    byte
 }
 
 // Picks bits by a list: bit t of `to` is the bit of `from` that entry t names.
@@ -61,27 +37,9 @@ pub fn pick(to: &mut [u8], list: &[u8], from: &[u8])
     requires { Names list.now (8 * length to.old) (8 * length from.now) }
     ensures { Picked list.now from.now to.old to.new }
 {
-    for i in 0..to.len() {
-        to[i] = byte_named(list, from, i);
+    for (i, byte) in to.iter_mut().enumerate() {
+        *byte = byte_named(list, from, i);
     }
-}
-
-fn lower(a: usize, b: usize) -> usize
-    ensures { result ≡ min a b }
-{
-    if a < b {
-        return a;
-    }
-    b
-}
-
-fn lower_mark(all: u8, mark: u8) -> u8
-    ensures { result ≡ min all mark }
-{
-    if all < mark {
-        return all;
-    }
-    mark
 }
 
 // Marks each place that an entry names, and the place after all for each entry that names none.
@@ -90,7 +48,7 @@ fn mark(list: &[u8], places: usize, marks: &mut [u8])
     ensures { Marked places places list.now marks.new }
 {
     for t in 0..places {
-        marks[lower(entry(list, t), places)] = 1;
+        marks[entry(list, t).min(places)] = 1;
     }
 }
 
@@ -99,11 +57,7 @@ fn all_marked(marks: &[u8], places: usize) -> bool
     requires { places ≤ length marks.now }
     ensures { AllMarked places marks.now result }
 {
-    let mut all: u8 = 1;
-    for p in 0..places {
-        all = lower_mark(all, marks[p]);
-    }
-    all == 1
+    marks[..places].iter().copied().min() != Some(0)
 }
 
 // Whether a list is a reordering of so many places: each entry leaves a mark, and then every place must have one.
@@ -119,23 +73,26 @@ pub fn reorders(list: &[u8], places: usize, marks: &mut [u8]) -> bool
     all_marked(marks, places)
 }
 
-// Keeps of the bits of `mask` those that are 1 in `word` too.
+// Keeps of the bits of `mask` those that are 1 in `word` too. By the index: in a `zip` the invariant cannot name a
+// slice that is written.
 fn keep(mask: &mut [u8], word: &[u8])
     requires { length mask.old ≤ length word.now }
     ensures { Kept word.now mask.old mask.new }
 {
-    for i in 0..mask.len() {
-        mask[i] = mask[i] & word[i];
+    for (i, byte) in mask.iter_mut().enumerate() {
+        *byte &= word[i];
     }
 }
 
 // The lowest inner place that is shortened and 1: shortened where the first list names a place from `count` on. The
-// number of payload places where there is none. The outer places that are shortened are picked into inner order.
-pub fn first_shortened(count: usize, word: &[u8], first: &[u8]) -> usize
+// outer places that are shortened are picked into inner order.
+pub fn first_shortened(count: usize, word: &[u8], first: &[u8]) -> Option<usize>
     requires { (count ≤ places_of_payload fibre)
         × (places_of_payload fibre ≤ 8 * length word.now)
         × Names first.now (places_of_payload fibre) (places_of_payload fibre) }
-    ensures { FirstShortened (places_of_payload fibre) count first.now word.now result }
+    ensures place { FirstShortened (places_of_payload fibre) count first.now word.now
+        (unwrap_or result (places_of_payload fibre)) }
+    ensures below { IfSome result (λ place. place < places_of_payload fibre) }
 {
     let mut inner = [255u8; fibre::PAYLOAD_BYTES];
     let mut outer = [255u8; fibre::PAYLOAD_BYTES];
@@ -151,27 +108,27 @@ pub fn fill_plain(list: &mut [u8], places: usize)
     ensures { Plain places list.new }
 {
     for t in 0..places {
-        list[2 * t] = lowest(t);
-        list[2 * t + 1] = lowest(t / 256);
+        list[2 * t..2 * t + 2].copy_from_slice(&(t as u16).to_le_bytes());
     }
 }
 
-// The lowest entry at fault: it names no place, or one that an entry before it names. `places` where there is none. For
-// a reader who asks what is wrong with a list; `marks` as above. The place after all is marked first, so that an entry
-// that names none finds a mark too.
-pub fn first_fault(list: &[u8], places: usize, marks: &mut [u8]) -> usize
+// The lowest entry at fault: it names no place, or one that an entry before it names. For a reader who asks what is
+// wrong with a list; `marks` as above. The place after all is marked first, so that an entry that names none finds a
+// mark too.
+pub fn first_fault(list: &[u8], places: usize, marks: &mut [u8]) -> Option<usize>
     requires { (length list.now ≡ 2 * places)
         × (length marks.old ≡ places + 1)
         × ((p : ℕ) → get_or marks.old p 0 ≡ 0) }
-    ensures { FirstFault places list.now result }
+    ensures entry { FirstFault places list.now (unwrap_or result places) }
+    ensures below { IfSome result (λ entry. entry < places) }
 {
     marks[places] = 1;
     for t in 0..places {
-        let place = lower(entry(list, t), places);
+        let place = entry(list, t).min(places);
         if marks[place] != 0 {
-            return t;
+            return Some(t);
         }
         marks[place] = 1;
     }
-    places
+    None
 }

@@ -1,61 +1,90 @@
 -- Laws of numbers read from bytes.
 --
---   byte_placed     a byte of s, shifted to its place in a number
---   number_none     the number 0
---   number_first    the first byte of a number
---   number_more     more bits joined to a number
+--   number_part     eight bytes joined to a number
+--   padded          fewer bytes, with zero bytes after them
 --   number_sum      the exclusive or of two numbers
 --   number_across   the 64 bits from t on of two numbers
 --   number_inside   the 64 bits from a place inside a byte on: those of eight bytes, and of a ninth
---   number_end      bytes up to the end of s: past it every bit is 0
---   number_moved    the same, from a place inside the first byte on
+--   number_moved    bytes up to the end of s, from a place inside the first byte on: past the end every bit is 0
 use mathlib.Core.Path.{◌≡◌, refl, sym, ap, ◌∙◌}
-use mathlib.Core.List.{List}
-use Prim.Native.Nat.{ℕ, ◌+◌, ◌-◌, ◌*◌, ◌/◌, ◌%◌, ◌^◌, ◌≤◌, ◌<◌}
+use mathlib.Core.List.{List, ◌++◌}
+use Prim.Native.Nat.{ℕ, zero, suc, ◌+◌, ◌-◌, ◌*◌, ◌/◌, ◌%◌, ◌^◌, ◌≤◌, ◌<◌}
 use native.Mathlib.Decide.{dec_lt}
-use native.Mathlib.Nat.{zero-div}
+use native.Mathlib.Nat.{pow-suc, mul-suc, zero-add, mul-le-mul_left}
 use native.Mathlib.Omega.{arith}
 use lib.Bits.{bit_or, bit_xor}
-use lib.ListN.{length, get_or}
-use Rattle.rules.specs.Bits.{bit, zeros, run, placed, sum}
+use lib.Pow.{pow-add}
+use lib.ListN.{length, get_or, drop, replicate, get_or-append, get_or-eq_default}
+use lib.Seq.{get_or-drop, get_or-append-add}
+use Rattle.std.specs.Int.{w64, from_le_bytes, sum_through, byte_worth}
+use Rattle.std.proofs.lemmas.Nat.Bits.{bit_at_cat_low, bit_at_cat_high}
+use Rattle.rules.specs.Bits.{Bytes, bit, run, sum}
 use Rattle.rules.specs.Words.{digit}
-use Rattle.laws.proofs.Bits.{bit_past, bit_digit, bit_xor_law}
-use Rattle.laws.proofs.Numbers.{digit_high, digit_right, digit_left, digit_joined, digit_across}
-use Rattle.laws.proofs.Runs.{run_none, run_each, run_same}
+use Rattle.laws.proofs.Bits.{bit_past, byte_zeros, bit_drop, bit_digit, bit_xor_law}
+use Rattle.laws.proofs.Numbers.{digit_high, digit_right, digit_across}
+use Rattle.laws.proofs.Runs.{run_each}
 use Rattle.numbers.specs.Numbers.{Holds}
 
--- a byte's digits are the bits at its places
-byte_digits : (s : List ℕ) (i k : ℕ) → get_or s i 0 < 2 ^ 8
-    → digit (get_or s i 0) k ≡ run 8 (λ t. bit s (8 * i + t)) zeros k
-byte_digits s i k fits =
-    run_each 8 (λ t. bit s (8 * i + t)) zeros k (λ v. digit (get_or s i 0) k ≡ v)
-    (λ h. sym (bit_digit s i k h))
-    (λ h. digit_high (get_or s i 0) 8 k fits h)
+-- 256 to the power n is 2 to the power 8 n
+pub powers : (n : ℕ) → 256 ^ n ≡ 2 ^ (8 * n)
+powers zero = refl
+powers (suc n) =
+    let e : 8 * suc n ≡ 8 * n + 8 = omega arith in
+    rw (e, pow-add, pow-suc) (ap (λ (v : ℕ). v * 256) (powers n))
 
-pub byte_placed : (s : List ℕ) (a i : ℕ) → get_or s (a + i) 0 < 2 ^ 8
-    → Holds ((get_or s (a + i) 0 * 2 ^ (8 * i)) % 2 ^ 64) (placed (8 * i) 8 (λ t. bit s (8 * a + (8 * i + t))))
-byte_placed s a i fits = record {
-  each = λ k h.
-      digit_left (get_or s (a + i) 0) (8 * i) 64 k h
-      ∙ run_same (8 * i) zeros (digit (get_or s (a + i) 0)) zeros _ (λ n l. refl)
-      (λ n. byte_digits s (a + i) n fits ∙ run_same 8 _ zeros _ zeros (λ t l. ap (bit s) (omega arith))
-      (λ t. refl) n) k;
-}
+-- the first n + 1 bytes of s, joined to a number
+module _ (s : List ℕ) (fits : Bytes s) where
+  abbrev first : ℕ → ℕ
+  first n = sum_through (λ i. byte_worth i (get_or s i 0)) n
 
-pub number_none : (f : ℕ → ℕ) → Holds 0 (run 0 f zeros)
-number_none f = record { each = λ k h. rw (zero-div, run_none f zeros k) }
+  next : (n : ℕ) → first (suc n) ≡ get_or s (suc n) 0 * 2 ^ (8 * suc n) + first n
+  next n = rw (← powers (suc n)) (omega arith)
 
-pub number_more : {x y : ℕ} (b m : ℕ) (f : ℕ → ℕ) → ((k : ℕ) → f k < 2)
-    → Holds x (run b f zeros) → Holds y (placed b m (λ t. f (b + t))) → Holds (bit_or x y) (run (b + m) f zeros)
-number_more {x} {y} b m f bits p q = record { each = λ k h. digit_joined x y b m f bits k (p.each k h) (q.each k h) }
+  first_below : (n : ℕ) → first n < 2 ^ (8 * suc n)
+  first_below zero = fits 0
+  first_below (suc n) =
+      let p = 2 ^ (8 * suc n) in
+      let e : 8 * suc (suc n) ≡ 8 * suc n + 8 = omega arith in
+      rw (next n, e, pow-add)
+      (omega (arith, first_below n, mul-le-mul_left p (fits (suc n)), mul-suc p (get_or s (suc n) 0)))
 
-pub number_first : {x : ℕ} (f : ℕ → ℕ) → Holds x (placed 0 8 (λ t. f (0 + t))) → Holds x (run 8 f zeros)
-number_first f p = record {
-  each = λ k h.
-      p.each k h
-      ∙ run_none zeros (run 8 (λ t. f (0 + t)) zeros) k
-      ∙ run_same 8 _ zeros f zeros (λ t l. ap f (omega arith)) (λ t. refl) k;
-}
+  first_digits : (n k : ℕ) → k < 8 * suc n → digit (first n) k ≡ bit s k
+  first_digits zero k h = sym (bit_digit s 0 k h) ∙ ap (bit s) (zero-add k)
+  first_digits (suc n) k h = elim (dec_lt k (8 * suc n)) [
+    | yes l ↦ rw next (bit_at_cat_low (get_or s (suc n) 0) (8 * suc n) (first n) k l) ∙ first_digits n k l
+    | no l ↦
+        let e : 8 * suc n + (k - 8 * suc n) ≡ k = omega arith in
+        rw next (bit_at_cat_high (get_or s (suc n) 0) (8 * suc n) (first n) k (first_below n) (omega arith))
+        ∙ sym (bit_digit s (suc n) (k - 8 * suc n) (omega arith))
+        ∙ ap (bit s) e
+  ]
+
+alike : (f g : ℕ → ℕ) (n : ℕ) → ((i : ℕ) → i < suc n → f i ≡ g i) → sum_through f n ≡ sum_through g n
+alike f g zero same = same 0 (omega arith)
+alike f g (suc n) same = rw (alike f g n (λ i h. same i (omega arith)), same (suc n) (omega arith)) refl
+
+pub number_part : {x : ℕ} (s p : List ℕ) (a : ℕ) → Bytes s → x ≡ from_le_bytes w64 p
+    → ((i : ℕ) → i < 8 → get_or p i 0 ≡ get_or (drop a s) i 0) → Holds x (λ k. bit s (8 * a + k))
+number_part s p a fits e same =
+    let all = e ∙ alike (λ i. byte_worth i (get_or p i 0)) (λ i. byte_worth i (get_or (drop a s) i 0)) 7
+    (λ i h. ap (byte_worth i) (same i h)) in
+    record {
+      each = λ k h. rw all (first_digits (drop a s) (λ i. rw get_or-drop (fits (a + i))) 7 k h) ∙ bit_drop s a k;
+    }
+
+-- where there are fewer than eight, zero bytes follow
+pub padded : (p : List ℕ) (n i : ℕ) → length p ≡ n → get_or (p ++ drop n (replicate 8 0)) i 0 ≡ get_or p i 0
+padded p n i long = elim (dec_lt i (length p)) [
+  | yes h ↦ get_or-append p _ 0 i h
+  | no h ↦
+      let j = i - length p in
+      let e : i ≡ length p + j = omega arith in
+      rw e
+      (get_or-append-add p _ j 0
+      ∙ get_or-drop n _ j 0
+      ∙ byte_zeros 8 (n + j)
+      ∙ sym (get_or-eq_default p 0 (omega arith)))
+]
 
 pub number_sum : {x y : ℕ} {f g : ℕ → ℕ} → Holds x f → Holds y g → Holds (bit_xor x y) (sum f g)
 number_sum {x} {y} p q = record { each = λ k h. bit_xor_law x y k ∙ rw (p.each k h, q.each k h) }
@@ -84,15 +113,6 @@ module _ (s : List ℕ) (i w : ℕ) {low high x : ℕ} where
           ∙ ap (bit s) (omega arith)
 
 module _ (s : List ℕ) (i : ℕ) {x : ℕ} where
-  pub number_end : (n : ℕ) → length s ≤ i + n → Holds x (run (8 * n) (λ k. bit s (8 * i + k)) zeros)
-      → Holds x (λ k. bit s (8 * i + k))
-  number_end n l p = record {
-    each = λ k h.
-        p.each k h
-        ∙ run_each (8 * n) (λ k. bit s (8 * i + k)) zeros k (λ v. v ≡ bit s (8 * i + k)) (λ m. refl)
-        (λ m. sym (bit_past s (8 * i + k) (omega arith)));
-  }
-
   pub number_moved : (w : ℕ) → x < 2 ^ 64 → length s ≤ i + 8 → Holds x (λ k. bit s (8 * i + k))
       → Holds (x / 2 ^ w) (λ k. bit s (8 * i + w + k))
   number_moved w small l p = record {

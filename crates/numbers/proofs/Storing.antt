@@ -1,11 +1,9 @@
 -- Laws of numbers stored in bytes, and added to them.
 --
---   replaced_byte    a byte stored
+--   replaced_bytes   the bytes of a number stored, the lowest first
 --   replaced_none    nothing stored
 --   replaced_as      by equal bits
 --   replaced_more    more bits stored, from the byte on where those before them end
---   bytes_more       one more byte of a number stored, after j from byte i on
---   halves_stored    both halves of a number stored
 --   adds_replaced    a sum stored is added
 --   adds_moved       b bits added from byte i on, of x moved up by w: the digits of x from the weight w on
 --   adds_inside      a number added from a place inside a byte on: what leaves its eight bytes goes to a ninth
@@ -14,29 +12,52 @@
 --   rest_all         all bytes of a rest
 use mathlib.Core.Path.{◌≡◌, refl, sym, ap, ◌∙◌}
 use mathlib.Core.List.{List}
-use Prim.Native.Nat.{ℕ, ◌+◌, ◌-◌, ◌*◌, ◌/◌, ◌%◌, ◌^◌, ◌≤◌, ◌<◌}
+use Prim.Native.Nat.{ℕ, zero, suc, ◌+◌, ◌-◌, ◌*◌, ◌/◌, ◌%◌, ◌^◌, ◌≤◌, ◌<◌}
 use native.Mathlib.Decide.{dec_lt, ℕ_discrete}
+use native.Mathlib.Nat.{div-one}
 use native.Mathlib.Omega.{arith}
-use lib.ListN.{length, set, length-set}
+use lib.ListN.{length, get_or}
+use Rattle.std.specs.Int.{bytes_low_first}
 use Rattle.rules.specs.Bits.{bit, zeros, placed, sum, Adds}
 use Rattle.rules.specs.Words.{digit}
-use Rattle.laws.proofs.Bits.{bit<, bit_set, bit_set_other}
+use Rattle.laws.proofs.Bits.{bit<, mid, length_mid, bit_mid, bit_below, bit_above}
 use Rattle.laws.proofs.Numbers.{digit_high, digit_right, digit_left, digit_low, digit_kept}
 use Rattle.laws.proofs.Runs.{run_low, run_high, placed_each, placed_none, placed_same, placed_moved, placed_fewer}
 use Rattle.laws.proofs.Adds.{adds_as, adds_join}
+use Rattle.numbers.proofs.Reading.{powers}
 use Rattle.numbers.specs.Numbers.{Holds, Replaced}
 
-pub replaced_byte : (s : List ℕ) (a i x : ℕ) → a + i < length s
-    → Replaced s (set s (a + i) (x / 2 ^ (8 * i) % 2 ^ 8)) (a + i) 8 (λ k. digit x (8 * i + k))
-replaced_byte s a i x h = record {
-  length_same = length-set s (a + i) _;
-  below = λ n l. bit_set_other s (a + i) _ n (λ e. omega arith);
-  within = λ k l.
-      let q : (8 * (a + i) + k) % 8 ≡ k = omega arith in
-      bit_set s (a + i) _ (8 * (a + i) + k) h (omega arith)
-      ∙ rw q (digit_low (x / 2 ^ (8 * i)) 8 k l ∙ digit_right x (8 * i) k ∙ ap (digit x) (omega arith));
-  above = λ n l. bit_set_other s (a + i) _ n (λ e. omega arith);
-}
+-- byte j of a number stored, the lowest first
+byte_stored : (i m j x : ℕ) → j < m → get_or (bytes_low_first i m x) j 0 ≡ x / 2 ^ (8 * (i + j)) % 2 ^ 8
+byte_stored i zero j x h = absurd (omega arith)
+byte_stored zero (suc m) zero x h = rw div-one refl
+byte_stored (suc i) (suc m) zero x h =
+    let e : suc i + 0 ≡ suc i = omega arith in
+    rw (e, powers (suc i)) refl
+byte_stored i (suc m) (suc j) x h =
+    let e : i + suc j ≡ suc i + j = omega arith in
+    rw e (byte_stored (suc i) m j x (omega arith))
+
+length_stored : (i m x : ℕ) → length (bytes_low_first i m x) ≡ m
+length_stored i zero x = refl
+length_stored i (suc m) x = ap suc (length_stored (suc i) m x)
+
+pub replaced_bytes : (s p : List ℕ) (a n x : ℕ) → a + n ≤ length s → p ≡ bytes_low_first 0 n x
+    → Replaced s (mid a n s p) a (8 * n) (digit x)
+replaced_bytes s p a n x fits e =
+    let long : length p ≡ n = ap length e ∙ length_stored 0 n x in
+    record {
+      length_same = length_mid s p a n fits long;
+      below = bit_below s p a n fits long;
+      within = λ k l.
+          bit_mid s p a n fits long k l
+          ∙ ap (λ (q : List ℕ). bit q k) e
+          ∙ ap (λ (v : ℕ). digit v (k % 8)) (byte_stored 0 n (k / 8) x (omega arith))
+          ∙ digit_low (x / 2 ^ (8 * (0 + k / 8))) 8 (k % 8) (omega arith)
+          ∙ digit_right x (8 * (0 + k / 8)) (k % 8)
+          ∙ ap (digit x) (omega arith);
+      above = λ m l. bit_above s p a n fits long m (omega arith);
+    }
 
 pub replaced_none : (s : List ℕ) (a : ℕ) (f : ℕ → ℕ) → Replaced s s a 0 f
 replaced_none s a f = record {
@@ -70,18 +91,6 @@ module _ {s t u : List ℕ} {a b : ℕ} {f : ℕ → ℕ} (p : Replaced s t a b 
     ];
     above = λ n l. q.above n (omega arith) ∙ p.above n (omega arith);
   }
-
-pub bytes_more : {s t u : List ℕ} (a i j x : ℕ) → Replaced s t (a + i) (8 * j) (λ k. digit x (8 * i + k))
-    → Replaced t u (a + (i + j)) 8 (λ k. digit x (8 * (i + j) + k))
-    → Replaced s u (a + i) (8 * j + 8) (λ k. digit x (8 * i + k))
-bytes_more a i j x p q = replaced_more p (a + (i + j)) 8 q (omega arith) (λ k. ap (digit x) (omega arith))
-
-pub halves_stored : {s t u : List ℕ} (a x : ℕ) → Replaced s t (a + 0) 32 (λ k. digit x (0 + k))
-    → Replaced t u (a + 4) 32 (λ k. digit x (32 + k)) → Replaced s u a 64 (digit x)
-halves_stored {s} a x p q =
-    replaced_more
-    (replaced_more (replaced_none s a (digit x)) (a + 0) 32 p (omega arith) (λ k. refl)) (a + 4) 32 q (omega arith)
-    (λ k. refl)
 
 pub adds_replaced : {s t : List ℕ} (a b : ℕ) (f : ℕ → ℕ) {g : ℕ → ℕ} → Replaced s t a b g
     → ((k : ℕ) → k < b → g k ≡ (bit s (8 * a + k) + f k) % 2) → Adds s t (placed (8 * a) b f)

@@ -1,5 +1,6 @@
 // Numbers of 64 bits in bytes, at any place: read, stored and added. The first bit of a number is its lowest.
-// A place is its byte and its weight there, as a slice may have more bits than a usize can count.
+// A place is its byte and its weight there, as a slice may have more bits than a usize can count. They are two
+// arguments, as every clause speaks of each.
 // Its functions serve the crates above, which show what they require; no user calls them.
 #![tactic(auto)]
 
@@ -9,39 +10,14 @@ ghost use Rattle.rules.specs.Matrix.{total};
 ghost use Rattle.rules.specs.Words.{digit};
 ghost use Rattle.numbers.specs.Numbers.{Holds, Replaced, LowestOne};
 
-fn wide(byte: u8) -> u64
-    ensures { result ≡ byte }
-{
-    byte as u64
-}
-
-fn lowest(number: u64) -> u8
-    ensures { result ≡ number % 2 ^ 8 }
-{
-    (number % 256) as u8
-}
-
-// Byte i of the number that begins at byte `at`, at its weight there.
-fn byte_at(s: &[u8], at: usize, i: usize) -> u64
-    requires { (at + i < length s.now) × (i < 8) }
-    ensures { Holds result (placed (8 * i) 8 (λ t. bit s.now (8 * at + (8 * i + t)))) }
-{
-    wide(s[at + i]) << (8 * i)
-}
-
-// The eight bytes from `at` on. They are spelt out, so that they compile to one load.
+// The eight bytes from `at` on.
 pub fn load(s: &[u8], at: usize) -> u64
     requires { at + 8 ≤ length s.now }
     ensures { Holds result (λ k. bit s.now (8 * at + k)) }
 {
-    byte_at(s, at, 0)
-        | byte_at(s, at, 1)
-        | byte_at(s, at, 2)
-        | byte_at(s, at, 3)
-        | byte_at(s, at, 4)
-        | byte_at(s, at, 5)
-        | byte_at(s, at, 6)
-        | byte_at(s, at, 7)
+    let mut bytes = [0u8; 8];
+    bytes.copy_from_slice(&s[at..at + 8]);
+    u64::from_le_bytes(bytes)
 }
 
 // The 64 bits from `turn` on of two numbers, one after the other. A shift by 64 is not allowed, so it is split. Joined
@@ -59,7 +35,7 @@ pub fn number_at(s: &[u8], byte: usize, weight: usize) -> u64
     ensures { Holds result (λ k. bit s.now (8 * byte + weight + k)) }
 {
     let last = byte + (weight + 63) / 8;
-    across(load(s, byte), wide(s[last]), weight)
+    across(load(s, byte), u64::from(s[last]), weight)
 }
 
 // The bytes from `byte` on to the end of s, at most eight, as one number.
@@ -67,11 +43,9 @@ fn end_at(s: &[u8], byte: usize) -> u64
     requires { (byte ≤ length s.now) × (length s.now ≤ byte + 8) }
     ensures { Holds result (λ k. bit s.now (8 * byte + k)) }
 {
-    let mut number: u64 = 0;
-    for i in 0..s.len() - byte {
-        number = number | byte_at(s, byte, i);
-    }
-    number
+    let mut bytes = [0u8; 8];
+    bytes[..s.len() - byte].copy_from_slice(&s[byte..]);
+    u64::from_le_bytes(bytes)
 }
 
 // The 64 bits from a place on. Those past the end of s are 0: no byte there is read.
@@ -85,32 +59,12 @@ pub fn rest_at(s: &[u8], byte: usize, weight: usize) -> u64
     end_at(s, byte) >> weight
 }
 
-// Makes byte i of `number` the byte i of s from `at` on.
-fn put_byte(s: &mut [u8], at: usize, i: usize, number: u64)
-    requires { (at + i < length s.old) × (i < 8) }
-    ensures { Replaced s.old s.new (at + i) 8 (λ k. digit number (8 * i + k)) }
-{
-    s[at + i] = lowest(number >> (8 * i));
-}
-
-// The same of four bytes. They are spelt out, so that they compile to one store.
-fn put_four(s: &mut [u8], at: usize, i: usize, number: u64)
-    requires { (at + i + 4 ≤ length s.old) × (i ≤ 4) }
-    ensures { Replaced s.old s.new (at + i) 32 (λ k. digit number (8 * i + k)) }
-{
-    put_byte(s, at, i, number);
-    put_byte(s, at, i + 1, number);
-    put_byte(s, at, i + 2, number);
-    put_byte(s, at, i + 3, number);
-}
-
 // Makes `number` the eight bytes of s from `at` on.
 pub fn store(s: &mut [u8], at: usize, number: u64)
     requires { at + 8 ≤ length s.old }
     ensures { Replaced s.old s.new at 64 (digit number) }
 {
-    put_four(s, at, 0, number);
-    put_four(s, at, 4, number);
+    s[at..at + 8].copy_from_slice(&number.to_le_bytes());
 }
 
 // Adds the lowest eight bits of a number to a byte.
@@ -118,7 +72,7 @@ fn add_byte(s: &mut [u8], at: usize, number: u64)
     requires { at < length s.old }
     ensures { Adds s.old s.new (placed (8 * at) 8 (digit number)) }
 {
-    s[at] = s[at] ^ lowest(number);
+    s[at] ^= (number % 256) as u8;
 }
 
 // Adds a number to the 64 bits from a place on. The bits that leave its eight bytes go to a ninth.
@@ -132,14 +86,15 @@ pub fn add_number(s: &mut [u8], byte: usize, weight: usize, number: u64)
     add_byte(s, last, (number >> 1) >> (63 - weight));
 }
 
-// Adds the lowest `count` bits of a number to those from a place on, and touches no byte that has none of them.
+// Adds the lowest `count` bits of a number to those from a place on, and touches no byte that has none of them. The
+// loop goes by the byte's number, which is in the shift too.
 pub fn add_rest(s: &mut [u8], byte: usize, weight: usize, number: u64, count: usize)
     requires { (8 * byte + weight + count ≤ 8 * length s.old) × (weight < 8) × (0 < count) × (count < 64) }
     ensures { Adds s.old s.new (placed (8 * byte + weight) count (digit number)) }
 {
     let kept = number % (1 << count);
     add_byte(s, byte, kept << weight);
-    for i in 1..(weight + count + 7) / 8 {
+    for i in 1..(weight + count).div_ceil(8) {
         add_byte(s, byte + i, kept >> (8 * i - weight));
     }
 }
@@ -148,12 +103,12 @@ pub fn add_rest(s: &mut [u8], byte: usize, weight: usize, number: u64, count: us
 pub fn lowest_one(number: u64) -> usize
     ensures { LowestOne number result }
 {
-    u64::trailing_zeros(number) as usize
+    number.trailing_zeros() as usize
 }
 
 // How many bits of a number are 1.
 pub fn ones_in(number: u64) -> usize
     ensures { result ≡ total 64 (digit number) }
 {
-    u64::count_ones(number) as usize
+    number.count_ones() as usize
 }

@@ -34,12 +34,12 @@ const SHORT: [u32; 9] = [
 ];
 
 // The recipe of a code.
-fn recipe_of(code: CoaxCode) -> [u32; 9]
-    ensures { result ≡ coax_steps code }
+fn recipe_of(code: CoaxCode) -> &'static [u32; 9]
+    ensures { result.now ≡ coax_steps code }
 {
     match code {
-        CoaxCode::Long => LONG,
-        CoaxCode::Short => SHORT,
+        CoaxCode::Long => &LONG,
+        CoaxCode::Short => &SHORT,
     }
 }
 
@@ -54,7 +54,7 @@ pub fn solve(code: CoaxCode, checks: &[u8], parity: &mut [u8])
     let recipe = recipe_of(code);
     let mut registers = [0u8; REGISTER_BYTES];
     bits::add_run(&mut registers, 0, checks, 0, all);
-    solving::follow(&mut registers, size, &recipe);
-    bits::clear(parity, parity.len());
+    solving::follow(&mut registers, size, recipe);
+    parity.fill(0);
     bits::add_run(parity, 0, &registers, all, all);
 }

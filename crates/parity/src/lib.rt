@@ -64,8 +64,7 @@ pub fn solve(checks: &[u8], parity: &mut [u8])
     ensures { OwnChecks fibre checks.now parity.new }
 {
     let mut registers = [0u8; REGISTER_BYTES];
-    bits::copy(&mut registers[..PARITY_BYTES], checks);
-    let recipe = RECIPE;
-    solving::follow(&mut registers, SIZE, &recipe);
-    bits::copy(parity, &registers[PARITY_BYTES..PARITY_END]);
+    registers[..PARITY_BYTES].copy_from_slice(checks);
+    solving::follow(&mut registers, SIZE, &RECIPE);
+    parity.copy_from_slice(&registers[PARITY_BYTES..PARITY_END]);
 }

@@ -1,10 +1,10 @@
 // The scan of a fibre word's check rows: the lowest that fails.
 #![tactic(auto)]
 
-ghost use Rattle.std.specs.Prelude.{◌≡◌, ◌/◌, ◌<◌, length};
+ghost use Rattle.std.specs.Prelude.{◌≡◌, ◌/◌, ◌<◌, length, unwrap_or, IfSome};
 ghost use Rattle.rules.specs.Bits.{bit, need};
 ghost use Rattle.rules.specs.Matrix.{places, checks, entry};
-ghost use Rattle.rules.specs.Table.{fibre, lines};
+ghost use Rattle.rules.specs.Table.{fibre};
 ghost use Rattle.rules.specs.Terms.{term};
 ghost use Rattle.rows.specs.Scan.{Scanned};
 
@@ -16,50 +16,34 @@ fn term_of(word: &[u8], row: usize, j: usize, a: i16) -> u8
         × (a ≡ entry fibre (row / fibre.size) j) }
     ensures { result ≡ term fibre row (bit word.now) j }
 {
-    if a < 0 {
+    let Ok(turn) = usize::try_from(a) else {
         return 0;
-    }
-    let turn = a as usize;
+    };
     bits::bit_at(
         word,
         fibre::SIZE * j + (row % fibre::SIZE + turn) % fibre::SIZE,
     )
 }
 
-// Scans the rows by the table that it is lent, and leaves both loops at the first failed check with its row.
-fn scan(word: &[u8], table: &[[i16; fibre::ROWS]; fibre::COLUMNS]) -> usize
-    requires { (length word.now ≡ need (places fibre)) × (table.now ≡ lines) }
-    ensures { Scanned fibre (bit word.now) result }
-{
-    let mut row: usize = 0;
-    'rows: loop {
-        if row == fibre::CHECKS {
-            break 'rows row;
-        }
-        let i = row / fibre::SIZE;
-        let mut ones: usize = 0;
-        let mut j: usize = 0;
-        loop {
-            if fibre::COLUMNS <= j {
-                if ones % 2 == 1 {
-                    break 'rows row;
-                }
-                break;
-            }
-            ones += term_of(word, row, j, table[j][i]) as usize;
-            j += 1;
-        }
-        row += 1;
-    }
-}
-
-// The lowest failing row of a word, or the number of checks where every one holds. For crates above, which show that
-// the word is whole.
-pub fn lowest_failing(word: &[u8]) -> usize
+// The lowest failing row of a word: the scan leaves its loops at the first failed check, by a labelled break that
+// yields the row, the form that the paper names. For crates above, which show that the word is whole.
+pub fn lowest_failing(word: &[u8]) -> Option<usize>
     requires { length word.now ≡ need (places fibre) }
-    ensures { Scanned fibre (bit word.now) result }
+    ensures row { Scanned fibre (bit word.now) (unwrap_or result (checks fibre)) }
+    ensures below { IfSome result (λ row. row < checks fibre) }
 {
-    let mut table = [[0i16; fibre::ROWS]; fibre::COLUMNS];
-    fibre::copy_table(&mut table);
-    scan(word, &table)
+    let table = fibre::table();
+    'rows: {
+        for row in 0..fibre::CHECKS {
+            let i = row / fibre::SIZE;
+            let mut ones: usize = 0;
+            for (j, line) in table.iter().enumerate() {
+                ones += usize::from(term_of(word, row, j, line[i]));
+            }
+            if ones % 2 == 1 {
+                break 'rows Some(row);
+            }
+        }
+        None
+    }
 }

@@ -5,3 +5,4 @@ pub mod Sums
 pub mod Counting
 pub mod Checks
 pub mod LessonLaws
+pub mod Turns

@@ -28,10 +28,10 @@ use Rattle.rules.specs.Streams.{fresh}
 use Rattle.rules.specs.Refusals.{Refusal, bad_count, wrong_bytes, with_unused_set, no_room, of_stream}
 use Rattle.rules.specs.Asked.{Serves}
 use Rattle.rules.specs.Promises.{Promise, Checked, Completion, LineWritten, TailWritten}
-use Rattle.rules.specs.declared.Answer.{Answer}
-use Rattle.rules.specs.declared.Judgement.{Judgement}
+use Rattle.rules.specs.Answers.{Answer}
+use Rattle.rules.specs.Judgements.{Judgement}
 use Rattle.rules.specs.declared.Stream.{Stream}
-use Rattle.rules.specs.declared.Outcome.{Outcome}
+use Rattle.rules.specs.Answers.{Outcome}
 use Rattle.rules.specs.declared.CoaxCode.{CoaxCode}
 use Rattle.rules.specs.declared.CoaxCode.TheVariants.{Long, Short}
 

@@ -7,6 +7,8 @@ pub mod Formats
 pub mod Words
 pub mod Verdicts
 pub mod Streams
+pub mod Answers
+pub mod Judgements
 pub mod Refusals
 pub mod Asked
 pub mod Promises

@@ -3,8 +3,7 @@
 ghost use Rattle.std.specs.Prelude.{◌≡◌};
 ghost use Rattle.rules.specs.Matrix as matrix;
 ghost use Rattle.rules.specs.Matrix.{places_of_payload};
-ghost use Rattle.rules.specs.CoaxTables.{long_lines, short_lines};
-ghost use Rattle.rules.specs.Coax.{coax_size, coax_columns, coax_code, coax_number, coax_format};
+ghost use Rattle.rules.specs.Coax.{coax_size, coax_columns, coax_lines, coax_code, coax_number, coax_format};
 ghost use Rattle.rules.specs.Terms as terms;
 
 use crate::{CoaxCode, Limits};
@@ -110,18 +109,14 @@ const SHORT: [[i16; ROWS]; SHORT_COLUMNS] = [
     [-1, -1, -1, -1, 19],
 ];
 
-// Makes a copy of the longer code's table. No other function names the constant.
-pub fn copy_long(table: &mut [[i16; ROWS]; LONG_COLUMNS])
-    ensures { table.new ≡ long_lines }
+// Hands out the lines of a code's table, one for each block column. No other function names the constants.
+pub fn table(code: CoaxCode) -> &'static [[i16; ROWS]]
+    ensures { result.now ≡ coax_lines code }
 {
-    *table = LONG;
-}
-
-// Makes a copy of the shorter code's table. No other function names the constant.
-pub fn copy_short(table: &mut [[i16; ROWS]; SHORT_COLUMNS])
-    ensures { table.new ≡ short_lines }
-{
-    *table = SHORT;
+    match code {
+        CoaxCode::Long => &LONG,
+        CoaxCode::Short => &SHORT,
+    }
 }
 
 // The bits of a block.

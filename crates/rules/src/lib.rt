@@ -1,13 +1,16 @@
-// The rules: the verdicts, the answers and the stream that paper 01 names; and each code's numbers and table, a module
+// The rules: the verdicts, the refusals and the stream that paper 01 names; and each code's numbers and table, a module
 // for each code. What they mean is defined in specs/, a module for each section of the paper.
 #![tactic(auto)]
 
 pub mod coax;
 pub mod fibre;
 
+ghost use Rattle.std.specs.Prelude.{◌≡◌};
+ghost use Rattle.rules.specs.Answers.{number};
+
 // Why a word is not accepted: the lowest shortened place that is 1, the lowest failing row and how many rows fail, the
 // lowest sent parity place that differs, or the lowest delimiter bit that differs.
-#[derive(Clone, Copy)]
+#[derive(Clone, Copy, PartialEq, Eq)]
 pub enum Cause {
     Shortened(usize),
     Check { row: usize, count: usize },
@@ -15,28 +18,40 @@ pub enum Cause {
     Delimiter(usize),
 }
 
-#[derive(Clone, Copy)]
+// An enum of its own, and no Option: paper 01 names the form, a verdict enum that holds a cause enum.
+#[derive(Clone, Copy, PartialEq, Eq)]
 pub enum Verdict {
     Accepted,
     Rejected(Cause),
 }
 
-// What an operation that writes answers: it is done, or it is refused by a number.
-#[derive(Clone, Copy)]
-pub enum Answer {
-    Done,
-    Refused(usize),
+// Why an operation is refused: the refusals of paper 01, W2, W4 and W9, each with its number there.
+#[derive(Clone, Copy, Debug, PartialEq, Eq)]
+pub enum Refusal {
+    Count = 1,
+    Bytes = 2,
+    UnusedBit = 3,
+    Delimiter = 4,
+    Room = 5,
+    TooMany = 6,
+    State = 7,
+    Shortened = 8,
+    Block = 10,
+    OtherCode = 12,
+    Lists = 16,
 }
 
-// What a check answers: its verdict, or a refusal's number.
-#[derive(Clone, Copy)]
-pub enum Judgement {
-    Judged(Verdict),
-    Refused(usize),
+impl Refusal {
+    // The paper's number.
+    pub fn number(self) -> usize
+        ensures { result ≡ number self }
+    {
+        self as usize
+    }
 }
 
 // The two coax codes: the longer has words of 16,200 bits, the shorter of 5,940.
-#[derive(Clone, Copy)]
+#[derive(Clone, Copy, PartialEq, Eq)]
 pub enum CoaxCode {
     Long,
     Short,
@@ -47,8 +62,9 @@ pub const STREAM_BYTES: usize = 384;
 
 pub const STREAM_BITS: usize = 3072;
 
-// A stream: the number of the code that it serves, the payload bits held so far, and the running checks of them.
-#[derive(Clone, Copy)]
+// A stream: the number of the code that it serves, the payload bits held so far, and the running checks of them. The
+// number is no enum, as a state may come from outside: any number in its bytes is a stream's (`state_single`).
+#[derive(Clone, Copy, PartialEq, Eq)]
 pub struct Stream {
     pub number: usize,
     pub held: usize,
@@ -61,11 +77,4 @@ pub struct Limits {
     pub number: usize,
     pub most: usize,
     pub used: usize,
-}
-
-// What a stream's operation answers, with the stream that it hands back.
-#[derive(Clone, Copy)]
-pub struct Outcome {
-    pub answer: Answer,
-    pub stream: Stream,
 }

@@ -1,9 +1,7 @@
 -- Laws of blocks of a word that reach the running checks, over any code.
 --
 --   has_fewer      bytes that have blocks, and others as long, have fewer of them
---   has_block      and each of them: where it ends
 --   spot_none      a zero block takes nothing
---   spot_turned    any other takes the block, turned
 --   line_more      one more entry of a line
 --   through_past   a line adds nothing to a check past its last entry
 --   line_all       all entries of a line: what it adds to every check
@@ -15,11 +13,11 @@
 --                  bits
 use mathlib.Core.Path.{◌≡◌, refl, sym, ap, ◌∙◌}
 use mathlib.Core.List.{List}
-use Prim.Native.Nat.{ℕ, ◌+◌, ◌-◌, ◌*◌, ◌/◌, ◌%◌, ◌^◌, ◌≤◌, ◌<◌}
+use Prim.Native.Nat.{ℕ, ◌+◌, ◌-◌, ◌*◌, ◌/◌, ◌%◌, ◌≤◌, ◌<◌}
 use native.Mathlib.Decide.{dec_lt}
 use native.Mathlib.Nat.{mul-add, mul-suc, mul-zero, mul-one, mul-le-mul_left, zero-add, div-add-mod, mod-lt}
 use native.Mathlib.Omega.{arith}
-use lib.IntN.{ℤ, pos, negsuc}
+use lib.IntN.{ℤ, negsuc}
 use lib.ListN.{length, get_or, replicate, get_or-eq_default}
 use Rattle.rules.specs.Bits.{bit, zeros, run, placed, Adds}
 use Rattle.rules.specs.Matrix.{Code, check}
@@ -41,16 +39,9 @@ has_fewer {z} h e b =
     let l = mul-le-mul_left z h in
     record { bits = omega (arith, b.bits); counted = omega (arith, b.counted) }
 
-pub has_block : (z m : ℕ) {s : List ℕ} → HasBlocks z (m + 1) s → (z * m + z ≤ 8 * length s) × (z * m + z < 2 ^ 64)
-has_block z m b = (omega (arith, b.bits, next z m), omega (arith, b.counted, next z m))
-
 module _ (z i j : ℕ) (w : List ℕ) where
   pub spot_none : {a : ℤ} {m : ℕ} → a ≡ negsuc m → (n : ℕ) → placed (z * i) z (spot z a (λ t. bit w (z * j + t))) n ≡ 0
   spot_none e n = placed_each (z * i) z _ n (λ v. v ≡ 0) (λ l. refl) (λ l k. rw e) (λ l. refl)
-
-  pub spot_turned : {a : ℤ} {m : ℕ} → a ≡ pos m → (n : ℕ)
-      → placed (z * i) z (λ t. bit w (z * j + (t + m) % z)) n ≡ placed (z * i) z (spot z a (λ t. bit w (z * j + t))) n
-  spot_turned e n = rw e
 
 -- the line l, and the bits x of its block
 module _ (z : ℕ) (some : 0 < z) (l : List ℤ) (x : ℕ → ℕ) where

@@ -1,5 +1,5 @@
-// The running checks of the fibre code: it holds the table's copy, and hands on a line of it for each block. The bits
-// of a payload reach them in inner order, picked by the first list.
+// The running checks of the fibre code: a line of the table is handed on for each block. The bits of a payload
+// reach them in inner order, picked by the first list.
 ghost use Rattle.std.specs.Prelude.{◌+◌, ◌*◌, ◌≤◌, length};
 ghost use Rattle.rules.specs.Bits.{bit, need, placed, Adds};
 ghost use Rattle.rules.specs.Lists.{Listed};
@@ -11,15 +11,14 @@ ghost use Rattle.running.specs.Running.{blocks_of};
 
 use rules::fibre;
 
-// Adds the blocks of the word from `from` on and below `to`.
+// Adds the blocks of the word from `from` on and below `to`: j is the block's number and its line's.
 pub fn add_blocks(sums: &mut [u8], word: &[u8], from: usize, to: usize)
     requires { (need (checks fibre) ≤ length sums.old) × (from ≤ to) × (to ≤ fibre.columns)
         × (fibre.size * to ≤ 8 * length word.now) }
     ensures { Adds sums.old sums.new
         (λ n. check fibre n (blocks_of fibre.size word.now from to)) }
 {
-    let mut table = [[0i16; fibre::ROWS]; fibre::COLUMNS];
-    fibre::copy_table(&mut table);
+    let table = fibre::table();
     for j in from..to {
         super::add_line(sums, word, fibre::SIZE, j, &table[j]);
     }

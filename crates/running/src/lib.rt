@@ -12,9 +12,6 @@ ghost use Rattle.rules.specs.Terms.{proper, Proper, spot, through};
 ghost use Rattle.running.specs.Running.{HasBlocks};
 ghost use Rattle.turning.specs.Turning.{part_bits};
 
-// The least entry that is a turn. A lower one is a zero block.
-const LEAST_TURN: i16 = 0;
-
 // Adds block j of the word, turned, to block i of the checks, where blocks are parts of 32 bytes: the part that starts
 // at byte 32j is handed on.
 fn add_part(checks: &mut [u8], word: &[u8], i: usize, j: usize, turn: usize)
@@ -38,10 +35,9 @@ fn add_entry(checks: &mut [u8], word: &[u8], size: usize, i: usize, j: usize, a:
     ensures { Adds checks.old checks.new
         (placed (size * i) size (spot size a (λ t. bit word.now (size * j + t)))) }
 {
-    if a < LEAST_TURN {
+    let Ok(turn) = usize::try_from(a) else {
         return;
-    }
-    let turn = a as usize;
+    };
     if size == turning::PART_BITS {
         add_part(checks, word, i, j, turn);
         return;
@@ -56,7 +52,7 @@ pub fn add_line(checks: &mut [u8], word: &[u8], size: usize, j: usize, line: &[i
     ensures { Adds checks.old checks.new
         (through size line.now (λ t. bit word.now (size * j + t))) }
 {
-    for i in 0..line.len() {
-        add_entry(checks, word, size, i, j, line[i]);
+    for (i, a) in line.iter().enumerate() {
+        add_entry(checks, word, size, i, j, *a);
     }
 }

@@ -28,12 +28,11 @@ pub fn read(state: &[u8]) -> Stream
 }
 
 // Makes a state that of a stream.
-pub fn write(state: &mut [u8], stream: Stream)
+pub fn write(state: &mut [u8], stream: &Stream)
     requires { length state.old ≡ state_bytes }
-    ensures { (length state.new ≡ state_bytes) × (stream_in state.new ≡ stream) }
+    ensures { (length state.new ≡ state_bytes) × (stream_in state.new ≡ stream.now) }
 {
     numbers::store(state, 0, stream.number as u64);
     numbers::store(state, HELD_FROM, stream.held as u64);
-    let checks = stream.checks;
-    bits::copy(&mut state[CHECKS_FROM..], &checks);
+    bits::copy(&mut state[CHECKS_FROM..], &stream.checks);
 }

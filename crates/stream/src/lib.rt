@@ -11,9 +11,10 @@ ghost use Rattle.rules.specs.Formats.{fibre_kept, fibre_format};
 ghost use Rattle.rules.specs.Words.{reordered, tail_bits};
 ghost use Rattle.rules.specs.Terms.{by_first, by_second};
 ghost use Rattle.rules.specs.Streams.{fresh};
+ghost use Rattle.rules.specs.Answers.{outcome};
 ghost use Rattle.rules.specs.Promises.{TailWritten, PieceTaken, Finished};
 
-use rules::{Answer, Outcome, Stream, fibre};
+use rules::{Refusal, Stream, fibre};
 
 // A fresh stream of the code that has this number: 0 bits held, and 384 zero bytes of running checks.
 pub fn fresh(number: usize) -> Stream
@@ -33,46 +34,26 @@ pub fn begin() -> Stream
     fresh(fibre::NUMBER)
 }
 
-// Adds a piece's bits, which stand at the places from `held` on, and returns how many bits are then held.
-fn feed(sums: &mut [u8], held: usize, count: usize, bytes: &[u8], first: &[u8]) -> usize
-    requires { (length sums.old ≡ need (checks fibre)) × (held + count ≤ fibre_kept.most) × Packed count bytes.now
-        × Listed (places_of_payload fibre) first.now }
-    ensures { (result ≡ held + count)
-        × Adds sums.old sums.new
-        (λ n. check fibre n (reordered (by_first first.now) (placed held count (bit bytes.now)))) }
-{
-    running::fibre::add_piece(sums, held, count, bytes, first);
-    held + count
-}
-
 // Takes a piece of so many bits.
-pub fn piece(stream: Stream, count: usize, bytes: &[u8], first: &[u8], second: &[u8]) -> Outcome
-    ensures { PieceTaken (fibre_format first.now second.now) count bytes.now stream result }
+pub fn piece(
+    stream: &mut Stream,
+    count: usize,
+    bytes: &[u8],
+    first: &[u8],
+    second: &[u8],
+) -> Result<(), Refusal>
+    ensures { PieceTaken (fibre_format first.now second.now) count bytes.now stream.old
+        (outcome result stream.new) }
 {
-    let held = stream.held;
-    let refusal = stream_refusals::piece(stream, count, bytes, first, second);
-    if refusal != 0 {
-        return Outcome {
-            answer: Answer::Refused(refusal),
-            stream: stream,
-        };
-    }
-    let mut checks = stream.checks;
-    let after = feed(&mut checks, held, count, bytes, first);
-    Outcome {
-        answer: Answer::Done,
-        stream: Stream {
-            number: stream.number,
-            held: after,
-            checks: checks,
-        },
-    }
+    stream_refusals::piece(stream, count, bytes, first, second)?;
+    running::fibre::add_piece(&mut stream.checks, stream.held, count, bytes, first);
+    stream.held += count;
+    Ok(())
 }
 
 // Writes the tail of the parity whose own checks are the running checks.
-fn write_tail(sums: &[u8], delimiter: usize, second: &[u8], tail: &mut [u8])
-    requires { (length sums.now ≡ need (checks fibre)) × Listed (checks fibre) second.now
-        × (need (tail_bits fibre_kept) ≤ length tail.old) }
+fn write_tail(sums: &[u8; rules::STREAM_BYTES], delimiter: usize, second: &[u8], tail: &mut [u8])
+    requires { Listed (checks fibre) second.now × (need (tail_bits fibre_kept) ≤ length tail.old) }
     ensures { TailWritten (by_second second.now) sums.now delimiter tail.old
         tail.new }
 {
@@ -81,29 +62,19 @@ fn write_tail(sums: &[u8], delimiter: usize, second: &[u8], tail: &mut [u8])
     writing::write_tail(tail, &parity, delimiter, second);
 }
 
-// Finishes: writes the tail, the sent parity and the delimiter, and hands back a fresh stream.
+// Finishes: writes the tail, the sent parity and the delimiter, and leaves a fresh stream.
 pub fn finish(
-    stream: Stream,
+    stream: &mut Stream,
     delimiter: usize,
     first: &[u8],
     second: &[u8],
     tail: &mut [u8],
-) -> Outcome
-    ensures { Finished (fibre_format first.now second.now) delimiter stream tail.old result
-        tail.new }
+) -> Result<(), Refusal>
+    ensures { Finished (fibre_format first.now second.now) delimiter stream.old tail.old
+        (outcome result stream.new) tail.new }
 {
-    let refusal = stream_refusals::finish(stream, delimiter, first, second, tail.len());
-    if refusal != 0 {
-        return Outcome {
-            answer: Answer::Refused(refusal),
-            stream,
-        };
-    }
-    let checks = stream.checks;
-    write_tail(&checks, delimiter, second, tail);
-    let next = fresh(fibre::NUMBER);
-    Outcome {
-        answer: Answer::Done,
-        stream: next,
-    }
+    stream_refusals::finish(stream, delimiter, first, second, tail.len())?;
+    write_tail(&stream.checks, delimiter, second, tail);
+    *stream = fresh(fibre::NUMBER);
+    Ok(())
 }

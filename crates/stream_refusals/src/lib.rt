@@ -7,77 +7,85 @@ pub mod coax;
 ghost use Rattle.std.specs.Prelude.{◌≡◌, ◌⊎◌, [], ◌∷◌, ◌+◌, ◌*◌, ◌≤◌, ◌<◌};
 ghost use Rattle.rules.specs.Bits.{UnusedSet};
 ghost use Rattle.rules.specs.Formats.{Format, fibre_format};
+ghost use Rattle.rules.specs.Answers.{told};
 ghost use Rattle.rules.specs.Refusals.{refusal, tells, of_piece, piece_order, finish_order};
 ghost use Rattle.rules.specs.Streams.{stream_bytes};
 ghost use Rattle.rules.specs.Terms as terms;
 
-use rules::{Limits, Stream, fibre};
+use rules::{Limits, Refusal, Stream, fibre};
 
 // 6: with b bits more, a stream would hold more than the most.
-fn above_with(held: usize, count: usize, most: usize) -> usize
-    ensures { tells (refusal 6 (most < held + count) ∷ []) result }
+fn above_with(held: usize, count: usize, most: usize) -> Result<(), Refusal>
+    ensures { tells (refusal 6 (most < held + count) ∷ []) (told result) }
 {
-    if most < held {
-        return 6;
+    if most < held || most - held < count {
+        return Err(Refusal::TooMany);
     }
-    if most - held < count {
-        return 6;
-    }
-    0
+    Ok(())
 }
 
 // 7: a stream claims more bits than the most, or a 1 stands past the checks in use.
-fn bad_state(stream: Stream, limits: Limits) -> usize
+fn bad_state(stream: &Stream, limits: Limits) -> Result<(), Refusal>
     requires { limits.used ≤ 8 * stream_bytes }
-    ensures { tells (refusal 7 ((limits.most < stream.held) ⊎ UnusedSet stream.checks limits.used) ∷ []) result }
+    ensures { tells (refusal 7 ((limits.most < stream.now.held) ⊎ UnusedSet stream.now.checks limits.used) ∷ [])
+        (told result) }
 {
     if limits.most < stream.held {
-        return 7;
+        return Err(Refusal::State);
     }
-    let checks = stream.checks;
-    if bits::first_set(&checks, limits.used, rules::STREAM_BITS) < rules::STREAM_BITS {
-        return 7;
+    match bits::first_set(&stream.checks, limits.used, rules::STREAM_BITS) {
+        Some(_) => Err(Refusal::State),
+        None => Ok(()),
     }
-    0
 }
 
 // What a piece asks of any code, by its limits: 12, 7, 2, 3, 6.
-pub fn piece_alone(stream: Stream, limits: Limits, count: usize, bytes: &[u8]) -> usize
+pub fn piece_alone(
+    stream: &Stream,
+    limits: Limits,
+    count: usize,
+    bytes: &[u8],
+) -> Result<(), Refusal>
     requires { limits.used ≤ 8 * stream_bytes }
-    ensures { (f : Format) → limits ≡ terms.limits f → tells (of_piece f stream count bytes.now) result }
+    ensures { (f : Format) → limits ≡ terms.limits f → tells (of_piece f stream.now count bytes.now) (told result) }
 {
-    refusals::first_told(&[
-        refusals::differs(stream.number, limits.number, 12),
-        bad_state(stream, limits),
-        refusals::differs(bytes.len(), bits::needed(count), 2),
-        refusals::unused_set(bytes, count),
-        above_with(stream.held, count, limits.most),
-    ])
+    refusals::differs(stream.number, limits.number, Refusal::OtherCode)?;
+    bad_state(stream, limits)?;
+    refusals::differs(bytes.len(), bits::needed(count), Refusal::Bytes)?;
+    refusals::unused_set(bytes, count)?;
+    above_with(stream.held, count, limits.most)
 }
 
 // Piece: 16, 12, 7, 2, 3, 6.
-pub fn piece(stream: Stream, count: usize, bytes: &[u8], first: &[u8], second: &[u8]) -> usize
-    ensures { tells (piece_order (fibre_format first.now second.now) stream count bytes.now) result }
+pub fn piece(
+    stream: &Stream,
+    count: usize,
+    bytes: &[u8],
+    first: &[u8],
+    second: &[u8],
+) -> Result<(), Refusal>
+    ensures { tells (piece_order (fibre_format first.now second.now) stream.now count bytes.now) (told result) }
 {
-    let told = refusals::bad_lists(first, second);
-    if told != 0 {
-        return told;
-    }
+    refusals::bad_lists(first, second)?;
     piece_alone(stream, fibre::limits(), count, bytes)
 }
 
 // Finish: 16, 12, 7, 1, 10, 4, 5.
-pub fn finish(stream: Stream, delimiter: usize, first: &[u8], second: &[u8], room: usize) -> usize
-    ensures { tells (finish_order (fibre_format first.now second.now) stream delimiter room) result }
+pub fn finish(
+    stream: &Stream,
+    delimiter: usize,
+    first: &[u8],
+    second: &[u8],
+    room: usize,
+) -> Result<(), Refusal>
+    ensures { tells (finish_order (fibre_format first.now second.now) stream.now delimiter room) (told result) }
 {
     let held = stream.held;
-    refusals::first_told(&[
-        refusals::bad_lists(first, second),
-        refusals::differs(stream.number, fibre::NUMBER, 12),
-        bad_state(stream, fibre::limits()),
-        refusals::outside(held, fibre::PAYLOAD_LEAST, fibre::PAYLOAD_MOST),
-        refusals::differs(held % fibre::DATA_BLOCK, 0, 10),
-        refusals::above(delimiter, fibre::DELIMITER_MOST, 4),
-        refusals::above(fibre::TAIL_BYTES, room, 5),
-    ])
+    refusals::bad_lists(first, second)?;
+    refusals::differs(stream.number, fibre::NUMBER, Refusal::OtherCode)?;
+    bad_state(stream, fibre::limits())?;
+    refusals::outside(held, fibre::PAYLOAD_LEAST, fibre::PAYLOAD_MOST)?;
+    refusals::differs(held % fibre::DATA_BLOCK, 0, Refusal::Block)?;
+    refusals::above(delimiter, fibre::DELIMITER_MOST, Refusal::Delimiter)?;
+    refusals::above(fibre::TAIL_BYTES, room, Refusal::Room)
 }

@@ -24,13 +24,13 @@ use Rattle.rules.specs.Asked.{EncodeAsks, CompleteAsks, PieceAsks, FinishAsks, W
 use Rattle.rules.specs.Coax.{Counted}
 use Rattle.rules.specs.Promises.{refusal_of, refusal_in}
 use Rattle.rules.specs.Promises.{Completed, WordChecked, Encoded, LineChecked, PieceTaken, Finished}
-use Rattle.rules.specs.declared.Answer.{Answer}
-use Rattle.rules.specs.declared.Answer.TheVariants.{Done}
+use Rattle.rules.specs.Answers.{Answer}
+use Rattle.rules.specs.Answers.{Done}
 use Rattle.rules.specs.declared.Verdict.{Verdict}
-use Rattle.rules.specs.declared.Judgement.{Judgement}
-use Rattle.rules.specs.declared.Judgement.TheVariants.{Judged}
+use Rattle.rules.specs.Judgements.{Judgement}
+use Rattle.rules.specs.Judgements.{Judged}
 use Rattle.rules.specs.declared.Stream.{Stream}
-use Rattle.rules.specs.declared.Outcome.{Outcome}
+use Rattle.rules.specs.Answers.{Outcome}
 use Rattle.laws.proofs.Lent.{not_bad, lent_numbered}
 use Rattle.laws.proofs.Asked.{encode_asked, complete_asked, piece_asked, finish_asked, word_asked, line_asked}
 use Rattle.theorems.specs.Exactly.{Exactly, Free}

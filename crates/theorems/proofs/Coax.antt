@@ -39,13 +39,13 @@ use Rattle.rules.specs.Promises.{refusal_of, refusal_in, Encoded, Finished}
 use Rattle.rules.specs.Coax.{coax_code, coax_format, coax_encode_order, coax_word_order, coax_finish_order}
 use Rattle.rules.specs.Coax.{CoaxEncodeAsks, CoaxWordAsks, CoaxFinishAsks}
 use Rattle.rules.specs.Coax.{CoaxEncoded, CoaxCompleted, CoaxChecked, CoaxFinished}
-use Rattle.rules.specs.declared.Answer.{Answer}
-use Rattle.rules.specs.declared.Answer.TheVariants.{Done}
+use Rattle.rules.specs.Answers.{Answer}
+use Rattle.rules.specs.Answers.{Done}
 use Rattle.rules.specs.declared.Verdict.{Verdict}
-use Rattle.rules.specs.declared.Judgement.{Judgement}
-use Rattle.rules.specs.declared.Judgement.TheVariants.{Judged}
+use Rattle.rules.specs.Judgements.{Judgement}
+use Rattle.rules.specs.Judgements.{Judged}
 use Rattle.rules.specs.declared.Stream.{Stream}
-use Rattle.rules.specs.declared.Outcome.{Outcome}
+use Rattle.rules.specs.Answers.{Outcome}
 use Rattle.rules.specs.declared.CoaxCode.{CoaxCode}
 use Rattle.rules.specs.declared.CoaxCode.TheVariants.{Long, Short}
 use Rattle.rules.proofs.TableLaws.{line_length}

@@ -15,9 +15,9 @@ use Rattle.rules.specs.Bits.{Bytes}
 use Rattle.rules.specs.Refusals.{tells}
 use Rattle.rules.specs.Promises.{refusal_of}
 use Rattle.rules.specs.Coax.{coax_format, coax_encode_order, CoaxEncoded, CoaxChecked}
-use Rattle.rules.specs.declared.Answer.TheVariants.{Done}
+use Rattle.rules.specs.Answers.{Done}
 use Rattle.rules.specs.declared.CoaxCode.{CoaxCode}
-use Rattle.rules.specs.declared.Judgement.TheVariants.{Refused}
+use Rattle.rules.specs.Judgements.{Refused}
 use Rattle.parity.proofs.CoaxSolved.{coax_one}
 use Rattle.host.specs.Numbers.{number_of_judgement, read_back, HostCoaxEncoded, HostCoaxChecked}
 use Rattle.host.proofs.Fits.{coax_check_fits}

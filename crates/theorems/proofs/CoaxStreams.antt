@@ -25,9 +25,9 @@ use Rattle.rules.specs.Formats.{Format}
 use Rattle.rules.specs.Streams.{fresh}
 use Rattle.rules.specs.Promises.{refusal_of}
 use Rattle.rules.specs.Coax.{coax_code, coax_number, coax_format, CoaxEncoded, CoaxFinished}
-use Rattle.rules.specs.declared.Answer.TheVariants.{Done}
+use Rattle.rules.specs.Answers.{Done}
 use Rattle.rules.specs.declared.Stream.{Stream}
-use Rattle.rules.specs.declared.Outcome.{Outcome}
+use Rattle.rules.specs.Answers.{Outcome}
 use Rattle.rules.specs.declared.CoaxCode.{CoaxCode}
 use Rattle.theorems.specs.Attempts.{chosen, Reached, finish}
 use Rattle.theorems.proofs.Streams.{held_counted, second_refused}

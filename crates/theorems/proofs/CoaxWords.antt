@@ -25,13 +25,13 @@ use Rattle.rules.specs.Verdicts.{row_fails, how_many}
 use Rattle.rules.specs.Promises.{Encoded}
 use Rattle.rules.specs.Coax.{coax_code, coax_format, coax_word_order, Counted}
 use Rattle.rules.specs.Coax.{CoaxWordAsks, CoaxEncoded, CoaxCompleted, CoaxChecked}
-use Rattle.rules.specs.declared.Answer.TheVariants.{Done}
+use Rattle.rules.specs.Answers.{Done}
 use Rattle.rules.specs.declared.Cause.TheVariants.{Shortened, Check}
 use Rattle.rules.specs.declared.Cause.TheVariants as cause
 use Rattle.rules.specs.declared.Verdict.{Verdict}
 use Rattle.rules.specs.declared.Verdict.TheVariants.{Accepted, Rejected}
-use Rattle.rules.specs.declared.Judgement.{Judgement}
-use Rattle.rules.specs.declared.Judgement.TheVariants.{Judged}
+use Rattle.rules.specs.Judgements.{Judgement}
+use Rattle.rules.specs.Judgements.{Judged}
 use Rattle.rules.specs.declared.CoaxCode.{CoaxCode}
 use Rattle.rules.proofs.CoaxLaws.{coax_numbers}
 use Rattle.rules.proofs.Checks.{check_same}

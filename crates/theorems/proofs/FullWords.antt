@@ -27,11 +27,11 @@ use Rattle.rules.specs.Verdicts.{Nowhere, ShortenedSet, row_fails, how_many, Wor
 use Rattle.rules.specs.Refusals.{word_order}
 use Rattle.rules.specs.Asked.{CompleteAsks}
 use Rattle.rules.specs.Promises.{Completion, Completed, WordChecked}
-use Rattle.rules.specs.declared.Answer.TheVariants.{Done}
+use Rattle.rules.specs.Answers.{Done}
 use Rattle.rules.specs.declared.Cause.TheVariants.{Shortened, Check}
 use Rattle.rules.specs.declared.Verdict.TheVariants.{Accepted, Rejected}
-use Rattle.rules.specs.declared.Judgement.{Judgement}
-use Rattle.rules.specs.declared.Judgement.TheVariants.{Judged}
+use Rattle.rules.specs.Judgements.{Judgement}
+use Rattle.rules.specs.Judgements.{Judged}
 use Rattle.rules.proofs.Checks.{check_below, check_same}
 use Rattle.laws.proofs.Bits.{bit<, bit_take, bit_front, bit_back}
 use Rattle.laws.proofs.Runs.{run_high, run_each}

@@ -24,11 +24,11 @@ use Rattle.rules.specs.Bits.{Bytes}
 use Rattle.rules.specs.Formats.{fibre_format}
 use Rattle.rules.specs.Refusals.{Refusal, tells, encode_order}
 use Rattle.rules.specs.Promises.{refusal_of, Promise, Encoded, WordChecked, LineChecked}
-use Rattle.rules.specs.declared.Answer.{Answer}
-use Rattle.rules.specs.declared.Answer.TheVariants.{Done}
+use Rattle.rules.specs.Answers.{Answer}
+use Rattle.rules.specs.Answers.{Done}
 use Rattle.rules.specs.declared.Verdict.TheVariants.{Accepted}
-use Rattle.rules.specs.declared.Judgement.{Judgement}
-use Rattle.rules.specs.declared.Judgement.TheVariants.{Judged, Refused}
+use Rattle.rules.specs.Judgements.{Judgement}
+use Rattle.rules.specs.Judgements.{Judged, Refused}
 use Rattle.laws.proofs.Told.{numbers_pass, told_single}
 use Rattle.parity.proofs.Single.{fibre_one}
 use Rattle.host.specs.Numbers.{number_of_judgement, JudgementFits, read_back, Answered, HostEncoded, HostWord, HostLine}

@@ -21,9 +21,9 @@ use Rattle.rules.specs.Formats.{Format}
 use Rattle.rules.specs.Streams.{fresh, Fed}
 use Rattle.rules.specs.Refusals.{Refusal, tells, piece_order, finish_order}
 use Rattle.rules.specs.Promises.{refusal_of, TailWritten, PieceTaken, Finished}
-use Rattle.rules.specs.declared.Answer.{Answer}
-use Rattle.rules.specs.declared.Answer.TheVariants.{Done, Refused}
-use Rattle.rules.specs.declared.Outcome.{Outcome}
+use Rattle.rules.specs.Answers.{Answer}
+use Rattle.rules.specs.Answers.{Done, Refused}
+use Rattle.rules.specs.Answers.{Outcome}
 use Rattle.laws.proofs.Adds.{adds_same}
 use Rattle.laws.proofs.Bits.{byte_zeros}
 use Rattle.laws.proofs.Lent.{lent_passes}

@@ -23,10 +23,10 @@ use Rattle.rules.specs.Verdicts.{TailVerdict, LineVerdict}
 use Rattle.rules.specs.Refusals.{line_order}
 use Rattle.rules.specs.Asked.{EncodeAsks}
 use Rattle.rules.specs.Promises.{Encoded, LineChecked}
-use Rattle.rules.specs.declared.Answer.TheVariants.{Done}
+use Rattle.rules.specs.Answers.{Done}
 use Rattle.rules.specs.declared.Verdict.TheVariants.{Accepted}
-use Rattle.rules.specs.declared.Judgement.{Judgement}
-use Rattle.rules.specs.declared.Judgement.TheVariants.{Judged}
+use Rattle.rules.specs.Judgements.{Judgement}
+use Rattle.rules.specs.Judgements.{Judged}
 use Rattle.laws.proofs.Bits.{bit<, bit_take}
 use Rattle.laws.proofs.Runs.{run_low, run_each}
 use Rattle.laws.proofs.Written.{written_as}

@@ -11,7 +11,7 @@ use Rattle.rules.specs.Formats.{Format}
 use Rattle.rules.specs.Asked.{ListsFit}
 use Rattle.rules.specs.Promises.{refusal_of, PieceTaken, Finished}
 use Rattle.rules.specs.declared.Stream.{Stream}
-use Rattle.rules.specs.declared.Outcome.{Outcome}
+use Rattle.rules.specs.Answers.{Outcome}
 use Rattle.theorems.proofs.Serving.{other_refused}
 
 -- a call of the format g, and a stream t of another number

@@ -27,13 +27,13 @@ use Rattle.rules.specs.Asked.{ListsFit}
 use Rattle.rules.specs.Promises.{refusal_of, refusal_in, by, judged, Promise, Checked}
 use Rattle.rules.specs.Promises.{Completed, WordChecked, Encoded, LineChecked, PieceTaken, Finished}
 use Rattle.rules.specs.Lessons.{AllRight, lessons}
-use Rattle.rules.specs.declared.Answer.{Answer}
-use Rattle.rules.specs.declared.Answer.TheVariants.{Done, Refused}
+use Rattle.rules.specs.Answers.{Answer}
+use Rattle.rules.specs.Answers.{Done, Refused}
 use Rattle.rules.specs.declared.Verdict.{Verdict}
-use Rattle.rules.specs.declared.Judgement.{Judgement}
-use Rattle.rules.specs.declared.Judgement.TheVariants as judgement
+use Rattle.rules.specs.Judgements.{Judgement}
+use Rattle.rules.specs.Judgements as judgement
 use Rattle.rules.specs.declared.Stream.{Stream}
-use Rattle.rules.specs.declared.Outcome.{Outcome}
+use Rattle.rules.specs.Answers.{Outcome}
 use Rattle.rules.proofs.LessonLaws.{lessons_right}
 use Rattle.laws.proofs.Judged.{word_by, tail_by}
 use Rattle.laws.proofs.Lent.{lent_told, lent_rest}

@@ -19,13 +19,13 @@ use lib.Dec.{T, ltb}
 use Rattle.rules.specs.Formats.{Format}
 use Rattle.rules.specs.Refusals.{Refusal, tells}
 use Rattle.rules.specs.Promises.{refusal_of, refusal_in, Promise, Checked, Completed, Encoded, PieceTaken, Finished}
-use Rattle.rules.specs.declared.Answer.{Answer}
-use Rattle.rules.specs.declared.Answer.TheVariants.{Done, Refused}
+use Rattle.rules.specs.Answers.{Answer}
+use Rattle.rules.specs.Answers.{Done, Refused}
 use Rattle.rules.specs.declared.Verdict.{Verdict}
-use Rattle.rules.specs.declared.Judgement.{Judgement}
-use Rattle.rules.specs.declared.Judgement.TheVariants as judgement
+use Rattle.rules.specs.Judgements.{Judgement}
+use Rattle.rules.specs.Judgements as judgement
 use Rattle.rules.specs.declared.Stream.{Stream}
-use Rattle.rules.specs.declared.Outcome.{Outcome}
+use Rattle.rules.specs.Answers.{Outcome}
 use Rattle.rules.proofs.Tests.{both_right}
 use Rattle.laws.proofs.Told.{numbered, told_left, told_single}
 use Rattle.theorems.specs.Exactly.{Exactly, Free}

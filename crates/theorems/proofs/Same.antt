@@ -25,10 +25,10 @@ use Rattle.rules.specs.Refusals.{Refusal}
 use Rattle.rules.specs.Refusals.{encode_order, piece_order, finish_order, complete_order, word_order, line_order}
 use Rattle.rules.specs.Promises.{Promise, Completion, LineWritten, TailWritten}
 use Rattle.rules.specs.Promises.{Completed, WordChecked, Encoded, LineChecked, PieceTaken, Finished}
-use Rattle.rules.specs.declared.Answer.{Answer}
-use Rattle.rules.specs.declared.Judgement.{Judgement}
+use Rattle.rules.specs.Answers.{Answer}
+use Rattle.rules.specs.Judgements.{Judgement}
 use Rattle.rules.specs.declared.Stream.{Stream}
-use Rattle.rules.specs.declared.Outcome.{Outcome}
+use Rattle.rules.specs.Answers.{Outcome}
 use Rattle.laws.proofs.Bits.{bits_same, bit_drop}
 use Rattle.laws.proofs.Runs.{run_low, run_same}
 use Rattle.laws.proofs.Adds.{adds_same}

@@ -24,7 +24,7 @@ use Rattle.rules.specs.Asked.{ListsFit, Serves}
 use Rattle.rules.specs.Promises.{refusal_of, PieceTaken, Finished}
 use Rattle.rules.specs.Coax.{coax_format}
 use Rattle.rules.specs.declared.Stream.{Stream}
-use Rattle.rules.specs.declared.Outcome.{Outcome}
+use Rattle.rules.specs.Answers.{Outcome}
 use Rattle.rules.specs.declared.CoaxCode.TheVariants.{Long, Short}
 use Rattle.rules.proofs.Tests.{both}
 use Rattle.laws.proofs.Told.{numbers_pass, told_single, told_passes}

@@ -30,10 +30,10 @@ use Rattle.rules.specs.Streams.{stream_bytes, fresh, Fed}
 use Rattle.rules.specs.Refusals.{Refusal, piece_order, finish_order}
 use Rattle.rules.specs.Asked.{ListsFit, Serves}
 use Rattle.rules.specs.Promises.{refusal_of, Promise, Encoded, PieceTaken, Finished}
-use Rattle.rules.specs.declared.Answer.{Answer}
-use Rattle.rules.specs.declared.Answer.TheVariants.{Done, Refused}
+use Rattle.rules.specs.Answers.{Answer}
+use Rattle.rules.specs.Answers.{Done, Refused}
 use Rattle.rules.specs.declared.Stream.{Stream}
-use Rattle.rules.specs.declared.Outcome.{Outcome}
+use Rattle.rules.specs.Answers.{Outcome}
 use Rattle.rules.proofs.Checks.{check_same, check_sum, check_zeros}
 use Rattle.laws.proofs.Bits.{bit<, byte_zeros, bit_zeros, bits_same}
 use Rattle.laws.proofs.Runs.{run_low, run_high, run_each, run_below}

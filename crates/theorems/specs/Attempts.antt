@@ -16,10 +16,10 @@ use Rattle.rules.specs.Formats.{Format}
 use Rattle.rules.specs.Words.{reordered}
 use Rattle.rules.specs.Streams.{stream_bytes, fresh}
 use Rattle.rules.specs.Promises.{PieceTaken, Finished}
-use Rattle.rules.specs.declared.Answer.{Answer}
-use Rattle.rules.specs.declared.Answer.TheVariants.{Done, Refused}
+use Rattle.rules.specs.Answers.{Answer}
+use Rattle.rules.specs.Answers.{Done, Refused}
 use Rattle.rules.specs.declared.Stream.{Stream}
-use Rattle.rules.specs.declared.Outcome.{Outcome}
+use Rattle.rules.specs.Answers.{Outcome}
 
 abbrev pub chosen : {A : Type 0} → Answer → A → A → A
 chosen Done x y = x

@@ -25,9 +25,9 @@ use Rattle.rules.specs.Words.{tail_bits}
 use Rattle.rules.specs.Streams.{fresh}
 use Rattle.rules.specs.Asked.{ListsFit, Serves}
 use Rattle.rules.specs.Promises.{Encoded, PieceTaken, Finished}
-use Rattle.rules.specs.declared.Answer.TheVariants.{Done}
+use Rattle.rules.specs.Answers.{Done}
 use Rattle.rules.specs.declared.Stream.{Stream}
-use Rattle.rules.specs.declared.Outcome.{Outcome}
+use Rattle.rules.specs.Answers.{Outcome}
 use Rattle.theorems.specs.Attempts.{Reached, Running}
 
 pub record DemandThree (f : Format) : Type 0 where

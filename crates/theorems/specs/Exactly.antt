@@ -12,7 +12,7 @@ use Rattle.rules.specs.Refusals.{Refusal}
 use Rattle.rules.specs.Promises.{WordChecked, LineChecked}
 use Rattle.rules.specs.Coax.{CoaxChecked}
 use Rattle.rules.specs.declared.CoaxCode.{CoaxCode}
-use Rattle.rules.specs.declared.Judgement.{Judgement}
+use Rattle.rules.specs.Judgements.{Judgement}
 
 abbrev pub Exactly : Type 0 → Type 0 → Type 0
 Exactly A B = (A → B) × (B → A)

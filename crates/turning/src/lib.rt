@@ -38,29 +38,32 @@ fn quarter_at(s: &[u8], from: usize, turn: usize, index: usize) -> u64
     numbers::across(low, high, seen % 64)
 }
 
-// The part of sums that begins at byte `at`, with the part of `block` that begins at byte `from`, turned, added.
-fn sums_at(sums: &[u8], at: usize, block: &[u8], from: usize, turn: usize) -> Part
-    requires { (at + part_bytes ≤ length sums.now) × (from + part_bytes ≤ length block.now) × (turn < part_bits) }
-    ensures { HoldsAll result (λ n.
-        (bit sums.now (8 * at + n) + turned part_bits (drop from block.now) turn n) % 2) }
-{
-    Part {
-        first: numbers::load(sums, at) ^ quarter_at(block, from, turn, 0),
-        second: numbers::load(sums, at + 8) ^ quarter_at(block, from, turn, 1),
-        third: numbers::load(sums, at + 16) ^ quarter_at(block, from, turn, 2),
-        fourth: numbers::load(sums, at + 24) ^ quarter_at(block, from, turn, 3),
+impl Part {
+    // The part of sums that begins at byte `at`, with the part of `block` that begins at byte `from`, turned, added.
+    // The quarters are spelt out, so that no loop is left.
+    fn sum(sums: &[u8], at: usize, block: &[u8], from: usize, turn: usize) -> Part
+        requires { (at + part_bytes ≤ length sums.now) × (from + part_bytes ≤ length block.now) × (turn < part_bits) }
+        ensures { HoldsAll result (λ n.
+            (bit sums.now (8 * at + n) + turned part_bits (drop from block.now) turn n) % 2) }
+    {
+        Part {
+            first: numbers::load(sums, at) ^ quarter_at(block, from, turn, 0),
+            second: numbers::load(sums, at + 8) ^ quarter_at(block, from, turn, 1),
+            third: numbers::load(sums, at + 16) ^ quarter_at(block, from, turn, 2),
+            fourth: numbers::load(sums, at + 24) ^ quarter_at(block, from, turn, 3),
+        }
     }
-}
 
-// Makes the quarters the part of s that begins at byte `at`.
-fn store(s: &mut [u8], at: usize, part: Part)
-    requires { at + part_bytes ≤ length s.old }
-    ensures { (f : ℕ → ℕ) → HoldsAll part f → Replaced s.old s.new at part_bits f }
-{
-    numbers::store(s, at, part.first);
-    numbers::store(s, at + 8, part.second);
-    numbers::store(s, at + 16, part.third);
-    numbers::store(s, at + 24, part.fourth);
+    // Makes the quarters the part of s that begins at byte `at`.
+    fn store(self, s: &mut [u8], at: usize)
+        requires { at + part_bytes ≤ length s.old }
+        ensures { (f : ℕ → ℕ) → HoldsAll self f → Replaced s.old s.new at part_bits f }
+    {
+        numbers::store(s, at, self.first);
+        numbers::store(s, at + 8, self.second);
+        numbers::store(s, at + 16, self.third);
+        numbers::store(s, at + 24, self.fourth);
+    }
 }
 
 // Adds a part, turned, to one of sums.
@@ -68,18 +71,17 @@ pub fn add_turned(sums: &mut [u8], block: &[u8], turn: usize)
     requires { (length sums.old ≡ part_bytes) × (length block.now ≡ part_bytes) × (turn < part_bits) }
     ensures { Adds sums.old sums.new (run part_bits (turned part_bits block.now turn) zeros) }
 {
-    let sum = sums_at(sums, 0, block, 0, turn);
-    store(sums, 0, sum);
+    Part::sum(sums, 0, block, 0, turn).store(sums, 0);
 }
 
-// The same where the part, from byte `from` on, and the sums, from byte `to` on, are of the same bytes.
+// The same where the part, from byte `from` on, and the sums, from byte `to` on, are of the same bytes: these cannot be
+// lent twice, once to be written.
 pub fn add_within(s: &mut [u8], to: usize, from: usize, turn: usize)
     requires { (to + part_bytes ≤ length s.old) × (from + part_bytes ≤ length s.old) × (turn < part_bits) }
     ensures { Adds s.old s.new
         (placed (8 * to) part_bits (turned part_bits (drop from s.old) turn)) }
 {
-    let sum = sums_at(s, to, s, from, turn);
-    store(s, to, sum);
+    Part::sum(s, to, s, from, turn).store(s, to);
 }
 
 // Adds the block of `size` bits that stands in `word` from place `from` on, turned, to the bits of `sums` from place
@@ -96,7 +98,7 @@ pub fn add_block(sums: &mut [u8], at: usize, word: &[u8], from: usize, size: usi
 }
 
 // The same where the block, from place `from` on, and the sums, from place `to` on, are of the same bytes. The block is
-// held first, as its bits may change while they are added.
+// held first, as its bits may change while they are added, and can't be lent while they are written.
 pub fn add_block_within(s: &mut [u8], to: usize, from: usize, size: usize, turn: usize)
     requires { (turn < size) × (to + size < 2 ^ 64) × (from + size < 2 ^ 64) × (to + size ≤ 8 * length s.old)
         × (from + size ≤ 8 * length s.old) × (size ≤ held_bits) }

@@ -5,161 +5,146 @@
 mod digits;
 mod words;
 
-ghost use Rattle.std.specs.Prelude.{◌≤◌, length};
-ghost use Rattle.io.specs.Counts.{IsPrefixLen};
+ghost use Rattle.std.specs.Prelude.{◌≤◌, length, IfSome};
 ghost use Rattle.codes.specs.Codes.{pair_bytes};
 
-use answers::Said;
-use codes::{Code, pair};
-use console::decimals::Number;
-use console::files::Got;
+use answers::{Said, Status};
+use codes::{Code, Served, pair};
+use console::decimals::NotNumber;
 use console::{arguments, decimals, files, say};
 use kinds::System;
 use lessons::tally;
 use lessons::tally::Tally;
-use rules::Answer;
-use words::Sought;
 
-// What was expected of a line that is not as it should be. 0 stands for a line that is.
-const FINE: u8 = 0;
-
-const WORD: u8 = 1;
-
-const NUMBER: u8 = 2;
-
-const SMALLER: u8 = 3;
-
-const DIGITS: u8 = 4;
-
-const FEWER: u8 = 5;
-
-const NO_MORE: u8 = 6;
-
-const END: u8 = 7;
-
-const LISTS: u8 = 8;
-
-// What was read of a vector, and of the file so far. The payload and the line are counts of hexadecimal digits, the
-// lists one of bytes.
+// What was expected of a line that is not as it should be.
 #[derive(Clone, Copy)]
-struct Reading {
+enum Expected {
+    Word,
+    Number,
+    Smaller,
+    Digits,
+    Fewer,
+    NoMore,
+    End,
+    Lists,
+}
+
+impl From<NotNumber> for Expected {
+    fn from(why: NotNumber) -> Expected {
+        match why {
+            NotNumber::Nothing => Expected::Number,
+            NotNumber::TooLarge => Expected::Smaller,
+        }
+    }
+}
+
+// What was read of a vector. The payload and the line are counts of hexadecimal digits.
+#[derive(Clone, Copy)]
+struct Vector {
     bits: usize,
     delimiter: usize,
     payload: usize,
     line: usize,
-    is_open: bool,
-    expected: u8,
+}
+
+// Before its first line. What a vector does not say is refused: it has no payload bits, and a delimiter that is none.
+impl Default for Vector {
+    fn default() -> Vector {
+        Vector {
+            bits: 0,
+            delimiter: 1024,
+            payload: 0,
+            line: 0,
+        }
+    }
+}
+
+// What was read of the file so far: the vector that a line has opened, how many bytes of lists, and how many vectors
+// were run. The lists are no slice: later lines write to their room.
+#[derive(Clone, Copy)]
+struct Reading {
+    open: Option<Vector>,
     lists: usize,
     vectors: usize,
     tally: Tally,
 }
 
-// Before a vector's first line. What a vector does not say is refused: it has no payload bits, and a delimiter that is
-// none.
-fn before_vector(lists: usize, vectors: usize, tally: Tally) -> Reading {
-    Reading {
-        bits: 0,
-        delimiter: 1024,
-        payload: 0,
-        line: 0,
-        is_open: false,
-        expected: FINE,
-        lists: lists,
-        vectors: vectors,
-        tally: tally,
-    }
-}
-
-// Whether the payload is encoded by these lists into this line word.
-fn is_right(lists: &[u8], bits: usize, payload: &[u8], delimiter: usize, line: &[u8]) -> bool {
+// Whether the payload is encoded into this line word.
+fn is_right(served: Served, bits: usize, payload: &[u8], delimiter: usize, line: &[u8]) -> bool {
     let mut made = [0u8; rules::fibre::LINE_BYTES];
-    let answer = codes::encode(Code::Fibre, lists, bits, payload, delimiter, &mut made);
-    match answer {
-        Answer::Done => {
-            let n = decimals::line_bytes(bits, &made);
-            check::same(&made[..n], line)
-        }
-        Answer::Refused(_) => false,
-    }
+    let answer = served.encode(bits, payload, delimiter, &mut made);
+    answer.is_ok() && served.code.encoded(bits, &made) == line
 }
 
-// How many bytes so many digits take, two a byte.
-fn bytes_of(digits: usize, bytes: &[u8]) -> usize
-    ensures { IsPrefixLen result bytes.now }
-{
-    if 5000 < digits {
-        return 0;
-    }
-    io::count((digits / 2) as isize, bytes)
+// The bytes that so many digits take, two a byte.
+fn bytes_of(digits: usize, bytes: &[u8]) -> &[u8] {
+    &bytes[..(digits / 2).min(bytes.len())]
 }
 
 // The line of a vector.
-fn said(right: bool, vector: usize) -> u8 {
+fn said(right: bool, vector: usize) -> Status {
     if right {
         return say::answer(Said::RightVector(vector));
     }
     say::answer(Said::WrongVector(vector))
 }
 
-// How many bytes of a room are the lists, which were read into it.
-fn listed(lists: usize, room: &[u8]) -> usize
-    ensures { IsPrefixLen result room.now }
-{
-    if 65536 < lists {
-        return 0;
-    }
-    io::count(lists as isize, room)
+// The lists, so many bytes, which were read into a room.
+fn listed(lists: usize, room: &[u8]) -> &[u8] {
+    &room[..lists.min(room.len())]
 }
 
 // The end of a vector: it is run, and its line said.
 fn end(reading: Reading, payload: &[u8], line: &[u8], lists: &[u8]) -> Reading {
+    let vector = reading.open.unwrap_or_default();
     let vectors = tally::more(reading.vectors);
-    let n = bytes_of(reading.payload, payload);
-    let m = bytes_of(reading.line, line);
-    let k = listed(reading.lists, lists);
+    let served = Served {
+        code: Code::Fibre,
+        lists: listed(reading.lists, lists),
+    };
     let right = is_right(
-        &lists[..k],
-        reading.bits,
-        &payload[..n],
-        reading.delimiter,
-        &line[..m],
+        served,
+        vector.bits,
+        bytes_of(vector.payload, payload),
+        vector.delimiter,
+        bytes_of(vector.line, line),
     );
-    let tally = tally::count(reading.tally, right, said(right, vectors));
-    before_vector(reading.lists, vectors, tally)
+    Reading {
+        open: None,
+        vectors,
+        tally: tally::count(reading.tally, right, said(right, vectors)),
+        ..reading
+    }
 }
 
 // A line that names lists: they are read, and hold from there on. It opens no vector.
-fn take_lists(rt: &impl System, reading: Reading, name: &[u8], lists: &mut [u8]) -> Reading
+fn take_lists(
+    rt: &impl System,
+    reading: Reading,
+    name: &[u8],
+    lists: &mut [u8],
+) -> Result<Reading, Expected>
     requires { pair_bytes ≤ length lists.old }
 {
-    let mut later = reading;
-    let got = pair::read_at(rt, name, lists);
-    later.lists = got.size;
-    if !got.fine {
-        later.is_open = true;
-        later.expected = LISTS;
-    }
-    later
-}
-
-// What was expected where this was read of a number, or of digits.
-fn expected(told: Number, nothing: u8, large: u8) -> u8 {
-    match told {
-        Number::Is(_) => FINE,
-        Number::Nothing => nothing,
-        Number::TooLarge => large,
-    }
+    let read = pair::read_at(rt, name, lists).ok_or(Expected::Lists)?;
+    Ok(Reading {
+        lists: read.len(),
+        ..reading
+    })
 }
 
 // A line that ends a vector.
-fn take_end(reading: Reading, rest: &[u8], payload: &[u8], line: &[u8], lists: &[u8]) -> Reading {
-    if rest.len() == 0 {
-        return end(reading, payload, line, lists);
+fn take_end(
+    reading: Reading,
+    rest: &[u8],
+    payload: &[u8],
+    line: &[u8],
+    lists: &[u8],
+) -> Result<Reading, Expected> {
+    if !rest.is_empty() {
+        return Err(Expected::NoMore);
     }
-    let mut later = reading;
-    later.is_open = true;
-    later.expected = NO_MORE;
-    later
+    Ok(end(reading, payload, line, lists))
 }
 
 // A line of a vector, by its first word and what comes after it.
@@ -169,35 +154,19 @@ fn take_words(
     rest: &[u8],
     payload: &mut [u8],
     line: &mut [u8],
-) -> Reading {
-    let mut later = reading;
-    later.is_open = true;
-    if check::same(name, b"bits") {
-        let told = decimals::read(rest);
-        later.bits = decimals::value(told);
-        later.expected = expected(told, NUMBER, SMALLER);
-        return later;
+) -> Result<Reading, Expected> {
+    let mut vector = reading.open.unwrap_or_default();
+    match name {
+        b"bits" => vector.bits = decimals::read(rest)?,
+        b"delimiter" => vector.delimiter = decimals::read(rest)?,
+        b"payload" => vector.payload = digits::put(payload, vector.payload, rest)?,
+        b"line" => vector.line = digits::put(line, vector.line, rest)?,
+        _ => return Err(Expected::Word),
     }
-    if check::same(name, b"delimiter") {
-        let told = decimals::read(rest);
-        later.delimiter = decimals::value(told);
-        later.expected = expected(told, NUMBER, SMALLER);
-        return later;
-    }
-    if check::same(name, b"payload") {
-        let told = digits::put(payload, later.payload, rest);
-        later.payload = decimals::value(told);
-        later.expected = expected(told, DIGITS, FEWER);
-        return later;
-    }
-    if check::same(name, b"line") {
-        let told = digits::put(line, later.line, rest);
-        later.line = decimals::value(told);
-        later.expected = expected(told, DIGITS, FEWER);
-        return later;
-    }
-    later.expected = WORD;
-    later
+    Ok(Reading {
+        open: Some(vector),
+        ..reading
+    })
 }
 
 // One line of the file. An empty one, and one that begins with #, says nothing.
@@ -208,58 +177,55 @@ fn take_line(
     payload: &mut [u8],
     line: &mut [u8],
     lists: &mut [u8],
-) -> Reading
+) -> Result<Reading, Expected>
     requires { pair_bytes ≤ length lists.old }
 {
     let n = words::content(text);
     let words = &text[0..n];
-    let from = words::find(words, 0, Sought::Word);
-    if from == n {
-        return reading;
+    let from = words::find(words, 0, words::is_word);
+    if from == n || words[from] == b'#' {
+        return Ok(reading);
     }
-    if words[from] == b'#' {
-        return reading;
+    let to = words::find(words, from, words::is_blank);
+    let rest = words::find(words, to, words::is_word);
+    let rest = &words[rest..n];
+    match &words[from..to] {
+        b"lists" => take_lists(rt, reading, rest, lists),
+        b"end" => take_end(reading, rest, payload, line, lists),
+        name => take_words(reading, name, rest, payload, line),
     }
-    let to = words::find(words, from, Sought::Blank);
-    let rest = words::find(words, to, Sought::Word);
-    if check::same(&words[from..to], b"lists") {
-        return take_lists(rt, reading, &words[rest..n], lists);
-    }
-    if check::same(&words[from..to], b"end") {
-        return take_end(reading, &words[rest..n], payload, line, lists);
-    }
-    take_words(reading, &words[from..to], &words[rest..n], payload, line)
 }
 
 // Says what was expected.
-fn say_expected(expected: u8) -> u8 {
-    match expected {
-        WORD => say::text(b"expected lists, bits, delimiter,\npayload, line or end\n"),
-        NUMBER => say::text(b"expected a number in decimal digits\n"),
-        SMALLER => say::text(b"expected a smaller number\n"),
-        DIGITS => say::text(b"expected two hexadecimal digits a byte\n"),
-        FEWER => say::text(b"expected fewer digits\n"),
-        NO_MORE => say::text(b"expected nothing after end\n"),
-        LISTS => say::text(b"expected plain, or a file of lists\n"),
-        _ => say::text(b"expected end\n"),
-    }
+fn say_expected(expected: Expected) -> Status {
+    say::text(match expected {
+        Expected::Word => b"expected lists, bits, delimiter,\npayload, line or end\n",
+        Expected::Number => b"expected a number in decimal digits\n",
+        Expected::Smaller => b"expected a smaller number\n",
+        Expected::Digits => b"expected two hexadecimal digits a byte\n",
+        Expected::Fewer => b"expected fewer digits\n",
+        Expected::NoMore => b"expected nothing after end\n",
+        Expected::Lists => b"expected plain, or a file of lists\n",
+        Expected::End => b"expected end\n",
+    })
 }
 
-// The tally after the last line that was read. A vector that is still open is wrong.
+// The tally after the first line that is not as expected.
+fn wrong(tally: Tally, line: usize, expected: Expected) -> Tally {
+    let status = say::answer(Said::WrongLine(line));
+    tally::count(tally, false, status.max(say_expected(expected)))
+}
+
+// The tally after the last line. A vector that is still open is wrong.
 fn told(reading: Reading, lines: usize) -> Tally {
-    let mut expected = reading.expected;
     let mut tally = reading.tally;
-    if !reading.is_open {
-        if reading.vectors == 0 {
-            tally.status = say::worse(tally.status, say::answer(Said::NoVectors));
-        }
-        return tally;
+    if reading.open.is_some() {
+        return wrong(tally, lines, Expected::End);
     }
-    if expected == FINE {
-        expected = END;
+    if reading.vectors == 0 {
+        tally.status = tally.status.max(say::answer(Said::NoVectors));
     }
-    let first = say::answer(Said::WrongLine(lines));
-    tally::count(tally, false, say::worse(first, say_expected(expected)))
+    tally
 }
 
 // Runs every vector of a text, a line each. It stops at the first line that is not as expected.
@@ -267,44 +233,41 @@ pub fn run(rt: &impl System, text: &[u8], tally: Tally) -> Tally {
     let mut payload = [0u8; 1800];
     let mut line = [0u8; 2122];
     let mut lists = io::large_buffer();
-    let mut reading = before_vector(pair::fill_plain(&mut lists), 0, tally);
+    let mut reading = Reading {
+        open: None,
+        lists: pair::fill_plain(&mut lists),
+        vectors: 0,
+        tally,
+    };
     let mut lines = 0;
-    let mut from = words::begin(text);
-    while from < text.len() {
-        let to = words::find(text, from, Sought::LineEnd);
-        reading = take_line(
+    for whole in text[words::begin(text)..].split_inclusive(|&byte| byte == b'\n') {
+        lines = tally::more(lines);
+        let taken = take_line(
             rt,
             reading,
-            &text[from..to],
+            whole.strip_suffix(b"\n").unwrap_or(whole),
             &mut payload,
             &mut line,
             &mut lists,
         );
-        lines = tally::more(lines);
-        if reading.expected != FINE {
-            break;
+        match taken {
+            Ok(later) => reading = later,
+            Err(expected) => return wrong(reading.tally, lines, expected),
         }
-        if to == text.len() {
-            break;
-        }
-        from = to + 1;
     }
     told(reading, lines)
 }
 
 // Reads the file of vectors that an argument names, or else vectors.txt in this folder, if it is there. No file has no
 // vectors.
-pub fn read(rt: &impl System, room: &mut [u8]) -> Got
-    ensures { IsPrefixLen result.size room.new }
+pub fn read<'a>(rt: &impl System, room: &'a mut [u8]) -> Option<&'a [u8]>
+    ensures { IfSome result (λ text. length text.now ≤ length room.old) }
 {
     if arguments::count(rt) == 3 {
-        return files::read(rt, 2, room);
+        return Some(files::read(rt, 2, room)?);
     }
-    if files::known(rt, b"vectors.txt").fine {
-        return files::read_at(rt, b"vectors.txt", room);
+    if files::known(rt, b"vectors.txt").is_ok() {
+        return Some(files::read_at(rt, b"vectors.txt", room)?);
     }
-    Got {
-        fine: true,
-        size: 0,
-    }
+    Some(b"")
 }

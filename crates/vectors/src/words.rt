@@ -1,62 +1,43 @@
 // The words of a line of text. Spaces, tabs and the carriage returns that some editors put at a line's end are blank.
 ghost use Rattle.std.specs.Prelude.{◌≤◌, length};
 
-// What is looked for: the end of a line, a blank, or anything else.
-#[derive(Clone, Copy)]
-pub enum Sought {
-    LineEnd,
-    Blank,
-    Word,
+pub fn is_blank(byte: u8) -> bool {
+    matches!(byte, b' ' | b'\t' | b'\r')
 }
 
-fn is_blank(byte: u8) -> bool {
-    byte == b' ' || byte == b'\t' || byte == b'\r'
+pub fn is_word(byte: u8) -> bool {
+    !is_blank(byte)
 }
 
-fn is_sought(byte: u8, sought: Sought) -> bool {
-    match sought {
-        Sought::LineEnd => byte == b'\n',
-        Sought::Blank => is_blank(byte),
-        Sought::Word => !is_blank(byte),
-    }
-}
-
-// The first place from `from` on that is sought, or where the text ends.
-pub fn find(text: &[u8], from: usize, sought: Sought) -> usize
-    requires { from ≤ length text.now }
+// The first place from `from` on whose byte is sought, or where the text ends.
+pub fn find<F: Fn(u8) -> bool>(text: &[u8], from: usize, is_sought: F) -> usize
+    requires start { from ≤ length text.now }
+    requires test { F.IsAlwaysCallable is_sought }
     ensures { (from ≤ result) × (result ≤ length text.now) }
 {
-    for i in from..text.len() {
-        if is_sought(text[i], sought) {
-            return i;
-        }
+    match text[from..].iter().position(|&byte| is_sought(byte)) {
+        Some(n) => from + n,
+        None => text.len(),
     }
-    text.len()
 }
 
 // How long a line is without the blanks at its end.
 pub fn content(text: &[u8]) -> usize
     ensures { result ≤ length text.now }
 {
-    let mut size = text.len();
-    while 0 < size {
-        if !is_blank(text[size - 1]) {
-            return size;
-        }
-        size -= 1;
+    match text.iter().rposition(|&byte| !is_blank(byte)) {
+        Some(last) => last + 1,
+        None => 0,
     }
-    0
 }
 
 // Where a text begins after the byte-order mark that some editors put first.
 pub fn begin(text: &[u8]) -> usize
     ensures { result ≤ length text.now }
 {
-    if text.len() < 3 {
-        return 0;
+    if text.starts_with(b"\xEF\xBB\xBF") {
+        3
+    } else {
+        0
     }
-    if check::same(&text[0..3], b"\xEF\xBB\xBF") {
-        return 3;
-    }
-    0
 }

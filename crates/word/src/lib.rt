@@ -8,44 +8,39 @@ ghost use Rattle.rules.specs.Matrix.{places, places_of_payload};
 ghost use Rattle.rules.specs.Table.{fibre};
 ghost use Rattle.rules.specs.Formats.{fibre_format};
 ghost use Rattle.rules.specs.Verdicts.{WordVerdict};
+ghost use Rattle.rules.specs.Answers.{answer};
+ghost use Rattle.rules.specs.Judgements.{judgement};
 ghost use Rattle.rules.specs.Promises.{Completion, Completed, WordChecked};
 ghost use Rattle.rules.specs.Terms.{by_first};
 
-use rules::{Answer, Cause, Judgement, Verdict, fibre};
+use rules::{Cause, Refusal, Verdict, fibre};
 
 // The verdict on a full word: shortened places come first, then the checks. The running checks of all blocks are the
 // checks themselves: where none is 1 the word is accepted with no scan, and else their ones are the failing rows.
-fn judge(count: usize, word: &[u8], first: &[u8]) -> Verdict
-    requires { (count ≤ places_of_payload fibre) × (length word.now ≡ need (places fibre))
+fn judge(payload: usize, word: &[u8], first: &[u8]) -> Verdict
+    requires { (payload ≤ places_of_payload fibre) × (length word.now ≡ need (places fibre))
         × Listed (places_of_payload fibre) first.now }
-    ensures { WordVerdict (by_first first.now) count (bit word.now) result }
+    ensures { WordVerdict (by_first first.now) payload (bit word.now) result }
 {
-    let place = lists::first_shortened(count, word, first);
-    if place < fibre::PAYLOAD_PLACES {
+    if let Some(place) = lists::first_shortened(payload, word, first) {
         return Verdict::Rejected(Cause::Shortened(place));
     }
     let mut checks = [0u8; fibre::PARITY_BYTES];
     running::fibre::add_blocks(&mut checks, word, 0, fibre::COLUMNS);
-    let failing = bits::count_ones(&checks);
-    if failing == 0 {
+    let count = bits::count_ones(&checks);
+    if count == 0 {
         return Verdict::Accepted;
     }
-    let row = rows::lowest_failing(word);
-    Verdict::Rejected(Cause::Check {
-        row: row,
-        count: failing,
-    })
+    let row = rows::lowest_failing(word).unwrap();
+    Verdict::Rejected(Cause::Check { row, count })
 }
 
 // Checks a full word with so many payload bits.
-pub fn check(count: usize, word: &[u8], first: &[u8], second: &[u8]) -> Judgement
-    ensures { WordChecked (fibre_format first.now second.now) count word.now result }
+pub fn check(count: usize, word: &[u8], first: &[u8], second: &[u8]) -> Result<Verdict, Refusal>
+    ensures { WordChecked (fibre_format first.now second.now) count word.now (judgement result) }
 {
-    let refusal = refusals::check_word(count, word, first, second);
-    if refusal != 0 {
-        return Judgement::Refused(refusal);
-    }
-    Judgement::Judged(judge(count, word, first))
+    refusals::check_word(count, word, first, second)?;
+    Ok(judge(count, word, first))
 }
 
 // Writes the parity of a full word: only the part from byte 1,824 on, its parity, is lent to be written.
@@ -59,14 +54,11 @@ fn write_parity(word: &mut [u8])
 }
 
 // Completes a full word with so many payload bits.
-pub fn complete(count: usize, word: &mut [u8], first: &[u8], second: &[u8]) -> Answer
-    ensures { Completed (fibre_format first.now second.now) count word.old result
+pub fn complete(count: usize, word: &mut [u8], first: &[u8], second: &[u8]) -> Result<(), Refusal>
+    ensures { Completed (fibre_format first.now second.now) count word.old (answer result)
         word.new }
 {
-    let refusal = refusals::complete(count, word, first, second);
-    if refusal != 0 {
-        return Answer::Refused(refusal);
-    }
+    refusals::complete(count, word, first, second)?;
     write_parity(word);
-    Answer::Done
+    Ok(())
 }

@@ -20,7 +20,7 @@ pub fn write_payload(line: &mut [u8], all: usize, count: usize, payload: &[u8])
     requires { (count ≤ all) × (count ≤ 8 * length payload.now) × (need all ≤ length line.old) }
     ensures { Written all (padded count (bit payload.now)) line.old line.new }
 {
-    bits::clear(line, bits::needed(all));
+    line[..bits::needed(all)].fill(0);
     bits::put_first(line, payload, count);
 }
 
@@ -28,20 +28,18 @@ pub fn write_payload(line: &mut [u8], all: usize, count: usize, payload: &[u8])
 pub fn digits_of(delimiter: usize) -> [u8; 2]
     ensures { result ≡ digit_bytes delimiter }
 {
-    let low = (delimiter % 256) as u8;
-    let high = (delimiter / 256 % 256) as u8;
+    let [low, high, ..] = delimiter.to_le_bytes();
     [low, high]
 }
 
 // The sent parity: the first of the bits that go out, picked by the second list.
-pub fn pick_sent(sent: &mut [u8], parity: &[u8], second: &[u8])
-    requires { (length sent.old ≡ need fibre_kept.sent) × (length parity.now ≡ need (checks fibre))
-        × Listed (checks fibre) second.now }
-    ensures { (length sent.new ≡ need fibre_kept.sent)
-        × ((n : ℕ) → n < fibre_kept.sent
-        → bit sent.new n ≡ outgoing (by_second second.now) parity.now n) }
+pub fn pick_sent(parity: &[u8], second: &[u8]) -> [u8; fibre::SENT_BYTES]
+    requires { (length parity.now ≡ need (checks fibre)) × Listed (checks fibre) second.now }
+    ensures { (n : ℕ) → n < fibre_kept.sent → bit result n ≡ outgoing (by_second second.now) parity.now n }
 {
-    lists::pick(sent, second, parity);
+    let mut sent = [0u8; fibre::SENT_BYTES];
+    lists::pick(&mut sent, second, parity);
+    sent
 }
 
 // Adds the fibre code's tail, the sent parity and then the delimiter, to the bits from `at` on.
@@ -51,8 +49,7 @@ pub fn add_tail(line: &mut [u8], at: usize, parity: &[u8], delimiter: usize, sec
     ensures { Adds line.old line.new
         (placed at (tail_bits fibre_kept) (tail (by_second second.now) parity.now delimiter)) }
 {
-    let mut sent = [0u8; fibre::SENT_BYTES];
-    pick_sent(&mut sent, parity, second);
+    let sent = pick_sent(parity, second);
     bits::add_run(line, at, &sent, 0, fibre::SENT_PLACES);
     let digits = digits_of(delimiter);
     bits::add_run(
@@ -71,6 +68,6 @@ pub fn write_tail(to: &mut [u8], parity: &[u8], delimiter: usize, second: &[u8])
     ensures { Written (tail_bits fibre_kept) (tail (by_second second.now) parity.now delimiter)
         to.old to.new }
 {
-    bits::clear(to, fibre::TAIL_BYTES);
+    to[..fibre::TAIL_BYTES].fill(0);
     add_tail(to, 0, parity, delimiter, second);
 }

@@ -22,11 +22,6 @@ loop-k-preserved c =
           (adds_number _ a.at k 64 (omega arith) c.loop-k.invariant.2 here c.add_number.ensures),
     )
 
-pub returns-then-left-eq0 : goal.returns-then-left-eq0
-returns-then-left-eq0 c =
-    let e : 64 * c.loop-k.k ≡ c.args.count = omega arith in
-    rw e at c.loop-k.invariant.2
-
 pub returns : goal.returns
 returns c =
     let a = c.args in

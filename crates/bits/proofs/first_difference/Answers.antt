@@ -5,11 +5,8 @@ use lib.Bits.{xor_lt}
 use Rattle.laws.proofs.Bits.{bit<}
 use Rattle.numbers.proofs.Reading.{number_sum}
 use Rattle.bits.proofs.Moving.{at_place}
-use Rattle.bits.proofs.Searching.{clear_none, clear_more, one_found, one_left, none_left, first_different}
+use Rattle.bits.proofs.Searching.{clear_more, one_found, one_left, none_left, first_different, none_different}
 use Rattle.bits.proofs.first_difference.Goals as goal
-
-pub loop-k-init : goal.loop-k-init
-loop-k-init c = (search rules, search rules, clear_none _)
 
 pub returns-then-number-ne0 : goal.returns-then-number-ne0
 returns-then-number-ne0 c =
@@ -18,9 +15,13 @@ returns-then-number-ne0 c =
     let here = at_place a.s.now a.at k c.number_at.ensures in
     let there = at_place a.other.now a.start k c.number_at-in-loop-k.ensures in
     let small = xor_lt 64 c.number_at.result c.number_at-in-loop-k.result (search rules) (search rules) in
-    first_different _ _ a.count _ (λ n. bit< a.s.now (a.at + n)) (λ n. bit< a.other.now (a.start + n))
-    (one_found _ k c.loop-k.invariant.2 (number_sum here there) a.count small c.if-number-ne0.true
-    c.lowest_one.ensures (omega arith))
+    let found =
+    one_found _ k c.loop-k.invariant.2 (number_sum here there) a.count small c.if-number-ne0.true c.lowest_one.ensures
+    (omega arith) in
+    record {
+      place = first_different _ _ (λ n. bit< a.s.now (a.at + n)) (λ n. bit< a.other.now (a.start + n)) a.count _ found;
+      below = found.below;
+    }
 
 pub loop-k-preserved : goal.loop-k-preserved
 loop-k-preserved c =
@@ -35,15 +36,19 @@ returns-then-place-count c =
     let a = c.args in
     let here = at_place a.s.now a.at (a.count / 64) c.rest_at.ensures in
     let there = at_place a.other.now a.start (a.count / 64) c.rest_at-2.ensures in
-    first_different _ _ a.count _ (λ n. bit< a.s.now (a.at + n)) (λ n. bit< a.other.now (a.start + n))
-    (one_left _ a.count (omega arith) c.loop-k.invariant.2 (number_sum here there) c.lowest_one-place.ensures
-    c.if-place-count.true)
+    let found =
+    one_left _ a.count (omega arith) c.loop-k.invariant.2 (number_sum here there) c.lowest_one-place.ensures
+    c.if-place-count.true in
+    record {
+      place = first_different _ _ (λ n. bit< a.s.now (a.at + n)) (λ n. bit< a.other.now (a.start + n)) a.count _ found;
+      below = found.below;
+    }
 
-pub returns : goal.returns
-returns c =
+pub returns-clause-place : goal.returns-clause-place
+returns-clause-place c =
     let a = c.args in
     let here = at_place a.s.now a.at (a.count / 64) c.rest_at.ensures in
     let there = at_place a.other.now a.start (a.count / 64) c.rest_at-2.ensures in
-    first_different _ _ a.count _ (λ n. bit< a.s.now (a.at + n)) (λ n. bit< a.other.now (a.start + n))
+    none_different _ _ (λ n. bit< a.s.now (a.at + n)) (λ n. bit< a.other.now (a.start + n)) a.count
     (none_left _ a.count (omega arith) c.loop-k.invariant.2 (number_sum here there) c.lowest_one-place.ensures
     c.if-place-count.false)

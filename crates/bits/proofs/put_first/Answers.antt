@@ -1,27 +1,12 @@
 -- `bits::put_first` meets its contract: whole bytes are copied, and the bits that are left are added.
-use mathlib.Core.Path.{◌≡◌, sym, ◌∙◌}
+use mathlib.Core.Path.{◌≡◌}
 use Prim.Native.Nat.{◌+◌, ◌*◌, ◌/◌, ◌%◌}
 use native.Mathlib.Nat.{zero-add}
 use native.Mathlib.Omega.{arith}
-use lib.Seq.{length-take-le}
 use Rattle.rules.specs.Bits.{bit}
 use Rattle.laws.proofs.Adds.{adds_join}
 use Rattle.bits.proofs.Moving.{adds_bytes}
 use Rattle.bits.proofs.put_first.Goals as goal
-
-pub slice_bounds-copy-end-2 : goal.slice_bounds-copy-end-2
-slice_bounds-copy-end-2 c = let a = c.args in sym (length-take-le _ a.s.now (omega arith))
-
-pub slice_bounds-copy-end-3 : goal.slice_bounds-copy-end-3
-slice_bounds-copy-end-3 c =
-    let a = c.args in
-    sym (length-take-le _ a.from.now (omega arith))
-
-pub copy-requires : goal.copy-requires
-copy-requires c =
-    let a = c.args in
-    let w = a.count / 8 in
-    length-take-le w a.s.now (omega arith) ∙ sym (length-take-le w a.from.now (omega arith))
 
 pub returns : goal.returns
 returns c =

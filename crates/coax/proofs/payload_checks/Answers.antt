@@ -1,21 +1,11 @@
 -- `coax::payload_checks` meets its contract: the running checks of the payload's blocks are its checks.
 use mathlib.Core.Path.{◌∙◌}
 use Prim.Native.Nat.{◌-◌}
-use native.Mathlib.Omega.{arith}
 use Rattle.rules.specs.Coax.{coax_size, coax_columns, coax_code}
 use Rattle.rules.proofs.Checks.{check_same}
-use Rattle.rules.proofs.CoaxLaws.{coax_numbers}
 use Rattle.laws.proofs.Running.{checks_again}
 use Rattle.running.proofs.Blocks.{first_blocks}
 use Rattle.coax.proofs.payload_checks.Goals as goal
-
-pub overflow_sub-columns : goal.overflow_sub-columns
-overflow_sub-columns c = omega (arith, c.columns.ensures, (coax_numbers c.args.code).rows)
-
-pub add_blocks-requires : goal.add_blocks-requires
-add_blocks-requires c =
-    let n = coax_numbers c.args.code in
-    rw c.columns.ensures (omega (arith, n.size), omega arith, omega arith, c.requires)
 
 pub returns : goal.returns
 returns c n =

@@ -1,32 +1,11 @@
 -- `coax::write_parity` meets its contract: the parity is the payload's, and stands after it.
 use Prim.Native.Nat.{◌/◌}
-use native.Mathlib.Omega.{arith}
-use lib.ListN.{length-take, length-drop}
 use Rattle.rules.specs.Bits.{bit}
 use Rattle.rules.specs.Matrix.{places_of_payload}
 use Rattle.rules.specs.Coax.{coax_code}
-use Rattle.rules.proofs.CoaxLaws.{coax_numbers}
 use Rattle.laws.proofs.Bits.{mid_rest}
 use Rattle.laws.proofs.Parities.{payload_parity}
 use Rattle.coax.proofs.write_parity.Goals as goal
-
-pub payload_checks-sums-requires : goal.payload_checks-sums-requires
-payload_checks-sums-requires c = omega (arith, (coax_numbers c.args.code).parts)
-
-pub slice_bounds-solve-count : goal.slice_bounds-solve-count
-slice_bounds-solve-count c =
-    let n = coax_numbers c.args.code in
-    omega (arith, n.parts, n.whole)
-
-pub slice_bounds-solve-start : goal.slice_bounds-solve-start
-slice_bounds-solve-start c =
-    let n = coax_numbers c.args.code in
-    omega (arith, n.parts, n.whole)
-
-pub solve-requires : goal.solve-requires
-solve-requires c =
-    let n = coax_numbers c.args.code in
-    (omega (arith, n.size), simp (length-take, length-drop) (omega (arith, n.parts, n.whole)))
 
 pub returns : goal.returns
 returns c =

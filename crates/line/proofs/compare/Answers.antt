@@ -1,30 +1,29 @@
 -- `line::compare` meets its contract.
+use borrow.Author.Rules.{rules}
+use mathlib.Core.Path.{◌≡◌}
+use native.Mathlib.Omega.{arith}
 use lib.Dec.{lit≤}
+use Rattle.std.specs.Prelude.{None}
 use Rattle.line.proofs.Compared.{difference_lowest, difference_none, bytes_differ, digits_differ}
 use Rattle.line.proofs.compare.Goals as goal
 
-pub returns-then-place-lt-SENT_PLACES : goal.returns-then-place-lt-SENT_PLACES
-returns-then-place-lt-SENT_PLACES c =
-    let sent = c.pick_sent in
-    difference_lowest (bytes_differ sent.new.sent _ sent.ensures.1 c.first_difference-place.ensures)
-    c.if-place-lt-SENT_PLACES.true
-
-pub returns-then-digit-lt-DELIMITER_PLACES : goal.returns-then-digit-lt-DELIMITER_PLACES
-returns-then-digit-lt-DELIMITER_PLACES c =
-    let sent = c.pick_sent in
-    let d = c.args.delimiter in (
-      difference_none (bytes_differ sent.new.sent _ sent.ensures.1 c.first_difference-place.ensures)
-          c.if-place-lt-SENT_PLACES.false,
-      difference_lowest (digits_differ d (lit≤ tt) c.digits_of-digits.ensures c.first_difference-digit.ensures)
-          c.if-digit-lt-DELIMITER_PLACES.true,
+pub returns-in-Some-first_difference : goal.returns-in-Some-first_difference
+returns-in-Some-first_difference c =
+    let sent = c.pick_sent-sent in
+    let d = c.args.delimiter in
+    let found = c.in-Some-first_difference.ensures in
+    let none : c.first_difference.result ≡ None = search rules in (
+      difference_none (bytes_differ sent.result _ sent.ensures (rw none at c.first_difference.ensures.place))
+          (omega arith),
+      difference_lowest (digits_differ d (lit≤ tt) c.digits_of-digits.ensures found.place) found.below,
     )
 
-pub returns : goal.returns
-returns c =
-    let sent = c.pick_sent in
-    let d = c.args.delimiter in (
-      difference_none (bytes_differ sent.new.sent _ sent.ensures.1 c.first_difference-place.ensures)
-          c.if-place-lt-SENT_PLACES.false,
-      difference_none (digits_differ d (lit≤ tt) c.digits_of-digits.ensures c.first_difference-digit.ensures)
-          c.if-digit-lt-DELIMITER_PLACES.false,
+pub returns-in-None : goal.returns-in-None
+returns-in-None c =
+    let sent = c.pick_sent-sent in
+    let d = c.args.delimiter in
+    let none : c.first_difference.result ≡ None = search rules in (
+      difference_none (bytes_differ sent.result _ sent.ensures (rw none at c.first_difference.ensures.place))
+          (omega arith),
+      difference_none (digits_differ d (lit≤ tt) c.digits_of-digits.ensures c.in-None.ensures.place) (omega arith),
     )

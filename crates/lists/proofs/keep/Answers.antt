@@ -1,14 +1,10 @@
 use borrow.Author.Rules.{rules, read_above}
-use mathlib.Core.Path.{refl}
 use Prim.Native.Nat.{ℕ}
 use native.Mathlib.Nat.{le_refl}
 use native.Mathlib.Omega.{arith}
 use Rattle.laws.proofs.Bits.{bits_more}
 use Rattle.lists.proofs.Picking.{kept_byte}
 use Rattle.lists.proofs.keep.Goals as goal
-
-pub loop-i-init : goal.loop-i-init
-loop-i-init c = (search rules, search rules, λ n h. absurd (omega arith), λ k h. refl)
 
 pub loop-i-preserved : goal.loop-i-preserved
 loop-i-preserved c =
@@ -20,8 +16,3 @@ loop-i-preserved c =
           (kept_byte a.mask.now a.word.now l.i _ (l.invariant.3 l.i (le_refl _))),
       λ k h. read_above ℕ l.mask l.i k _ 0 _ (omega arith) (l.invariant.3 k (omega arith)),
     )
-
-pub returns : goal.returns
-returns c =
-    let l = c.loop-i in
-    record { length_same = l.invariant.1; each = λ n h. l.invariant.2 n (omega arith) }

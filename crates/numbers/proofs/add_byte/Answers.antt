@@ -4,4 +4,4 @@ use Rattle.numbers.proofs.add_byte.Goals as goal
 
 pub returns : goal.returns
 returns c =
-    rw c.lowest.ensures (adds_byte c.args.s.now c.args.at c.args.number c.requires)
+    adds_byte c.args.s.now c.args.at c.args.number c.requires

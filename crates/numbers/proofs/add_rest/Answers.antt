@@ -3,7 +3,7 @@ use mathlib.Core.Path.{◌≡◌, ap, ◌∙◌}
 use Prim.Native.Nat.{ℕ, ◌*◌, ◌%◌, ◌^◌, ◌<◌}
 use native.Mathlib.Omega.{arith}
 use lib.Dec.{lit<}
-use lib.Pow.{pow_pos, shl_exact}
+use lib.Pow.{shl_exact}
 use Rattle.laws.proofs.Runs.{placed_none}
 use Rattle.laws.proofs.Adds.{adds_none}
 use Rattle.numbers.proofs.Storing.{adds_moved, rest_more, rest_all}
@@ -12,9 +12,6 @@ use Rattle.numbers.proofs.add_rest.Goals as goal
 -- 1 shifted by fewer than 64
 unit : (n : ℕ) → n < 64 → (1 * 2 ^ n) % 2 ^ 64 ≡ 2 ^ n
 unit n h = shl_exact 1 n 64 (lit< tt) (omega arith) ∙ omega arith
-
-pub nonzero_rem-kept : goal.nonzero_rem-kept
-nonzero_rem-kept c = let n = c.args.count in omega (arith, unit n (omega arith), pow_pos n)
 
 pub loop-i-init : goal.loop-i-init
 loop-i-init c = (search rules, search rules, search rules, adds_none _ _ (placed_none _ _))

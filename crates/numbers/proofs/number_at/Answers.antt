@@ -5,5 +5,5 @@ use Rattle.numbers.proofs.number_at.Goals as goal
 pub returns : goal.returns
 returns c =
     let a = c.args in
-    number_inside a.s.now a.byte a.weight c.requires.1 c.load.ensures c.wide.ensures
+    number_inside a.s.now a.byte a.weight c.requires.1 c.load.ensures c.from.ensures
     c.across.ensures

@@ -1,8 +1,12 @@
--- `numbers::store` meets its contract: twice four bytes stored.
-use Rattle.numbers.proofs.Storing.{halves_stored}
+-- `numbers::store` meets its contract: eight bytes stored.
+use Rattle.std.proofs.Common.{◌≡◌, ◌+◌, ◌-◌, ◌∙◌, arith}
+use Rattle.numbers.proofs.Storing.{replaced_bytes}
 use Rattle.numbers.proofs.store.Goals as goal
 
 pub returns : goal.returns
 returns c =
     let a = c.args in
-    halves_stored a.at a.number c.put_four.ensures c.put_four-2.ensures
+    let eight : a.at + 8 - a.at ≡ 8 = omega arith in
+    rw eight
+    (replaced_bytes a.s.now c.copy_from_slice.new.self a.at 8 a.number c.requires
+    (c.copy_from_slice.ensures.after ∙ c.to_le_bytes.ensures))

@@ -1,6 +1,6 @@
 -- `parity::solve` meets its contract: the recipe is followed from the checks and zeros after them. The code's constant
 -- is the recipe, by computing both.
-use mathlib.Core.Path.{◌≡◌, refl, sym, ◌∙◌}
+use mathlib.Core.Path.{◌≡◌, refl, ◌∙◌}
 use mathlib.Core.List.{List, ◌++◌}
 use Prim.Native.Nat.{ℕ, ◌+◌, ◌-◌, ◌*◌, ◌/◌, ◌≤◌, ◌<◌}
 use native.Mathlib.Omega.{arith}
@@ -46,25 +46,22 @@ packed p long = record {
   unused = λ u. let l = u.1 in omega (arith, u.2, bit_past p u.0 (omega arith));
 }
 
-pub slice_bounds-follow-end : goal.slice_bounds-follow-end
-slice_bounds-follow-end c = sym (size c.copy.new.to (omega arith))
-
 pub follow-requires : goal.follow-requires
 unfolding recipe
 follow-requires c =
-    let long = size c.copy.new.to (omega arith) in
+    let long = size c.copy_from_slice.new.self (omega arith) in
     (lit< tt, lit≤ tt, omega arith, codes_fit fibre_solves fibre_coded refl _ (omega arith))
 
 pub returns : goal.returns
 unfolding recipe
 returns c =
-    let read = c.copy-2 in
-    let begun = c.copy in
-    let s = begun.new.to in
+    let read = c.copy_from_slice-2 in
+    let begun = c.copy_from_slice in
+    let s = begun.new.self in
     let y = c.follow.new.registers in
     let long : length s ≡ parityBytes = omega arith in
     let made = c.follow.ensures.length_same in
-    rw (read.ensures, ← begun.ensures)
+    rw (read.ensures.after, ← begun.ensures.after)
     (followed_own fibre_solves fibre_coded refl (s ++ replicate restBytes 0) y s _ (begins s long) (clear s long)
     c.follow.ensures
     (packed _ (simp (length-take, length-drop) (omega (arith, made, size s long))))

@@ -1,22 +1,15 @@
--- `refusals::encode` meets its contract: its tests stand in the order of the definition.
+-- `refusals::encode` meets its contract: the unused bits are told where the bytes are as many as needed.
+use borrow.Author.Rules.{rules}
+use mathlib.Core.Path.{◌≡◌}
 use mathlib.Core.Logic.{inr}
-use Rattle.rules.specs.Formats.{fibre_format}
-use Rattle.rules.specs.Refusals.{encode_order}
-use Rattle.laws.proofs.Told.{none, test, told_tested, not_different}
-use Rattle.laws.proofs.Asked.{not_above}
+use lib.ListN.{length}
+use Rattle.rules.specs.Bits.{need}
+use Rattle.rules.specs.Answers.{told}
 use Rattle.refusals.proofs.encode.Goals as goal
 
-pub returns : goal.returns
-returns c =
-    let a = c.args in
-    let f = fibre_format a.first.now a.second.now in
-    let order = encode_order f a.count a.payload.now a.delimiter a.room in
-    told_tested order tt c.first_told.ensures
-    (test c.bad_lists.ensures (λ listed.
-    test c.outside.ensures (λ good.
-    let e = c.lowered-line.ensures.1 (not_above _ _ (λ l. good (inr l))) in
-    test c.differs.ensures (λ whole.
-    test (rw c.needed.ensures at c.differs-2.ensures) (λ bytes.
-    test (c.unused_set.ensures (not_different _ _ bytes)) (λ unused.
-    test c.above.ensures (λ small.
-    test (rw (c.needed-2.ensures, e) at c.above-2.ensures) (λ room. none))))))))
+pub returns-in_err-unused_set : goal.returns-in_err-unused_set
+returns-in_err-unused_set c =
+    let bytes : length c.args.payload.now ≡ need c.args.count = search rules in
+    let e : told c.from_residual-in_err-unused_set.result ≡ told c.unused_set.result = search rules in
+    let t = c.unused_set.ensures bytes in
+    inr (search rules, inr (search rules, inr (search rules, inr (search rules, rw e (search rules)))))

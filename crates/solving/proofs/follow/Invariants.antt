@@ -4,6 +4,6 @@ use lib.ListN.{length, take}
 use Rattle.recipes.specs.Steps.{Followed}
 use Rattle.solving.proofs.follow.Given as goal
 
-abbrev pub invariant-loop-k : goal.invariant-loop-k
-invariant-loop-k l =
-    (l.k ≤ length l.recipe) × Followed l.size (take l.k l.recipe) l.initial.registers l.registers
+abbrev pub invariant-loop-number : goal.invariant-loop-number
+invariant-loop-number l =
+    (l.number-index ≤ length l.recipe) × Followed l.size (take l.number-index l.recipe) l.initial.registers l.registers

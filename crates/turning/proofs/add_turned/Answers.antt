@@ -10,4 +10,4 @@ use Rattle.turning.proofs.add_turned.Goals as goal
 pub returns : goal.returns
 returns c =
     adds_as (run_none zeros _)
-    (adds_replaced 0 part_bits _ (c.store.ensures _ c.sums_at-sum.ensures) (λ k l. refl))
+    (adds_replaced 0 part_bits _ (c.store.ensures _ c.sum.ensures) (λ k l. refl))

@@ -6,4 +6,4 @@ use Rattle.turning.proofs.add_within.Goals as goal
 
 pub returns : goal.returns
 returns c =
-    adds_replaced _ part_bits _ (c.store.ensures _ c.sums_at-sum.ensures) (λ k l. refl)
+    adds_replaced _ part_bits _ (c.store.ensures _ c.sum.ensures) (λ k l. refl)

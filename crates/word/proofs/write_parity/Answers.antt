@@ -1,8 +1,5 @@
 -- `word::write_parity` meets its contract: the parity is the payload's, and stands after it.
-use borrow.Author.Rules.{rules}
-use native.Mathlib.Omega.{arith}
 use Prim.Native.Nat.{◌-◌, ◌/◌}
-use lib.ListN.{length-take, length-drop}
 use Rattle.rules.specs.Bits.{bit, need}
 use Rattle.rules.specs.Matrix.{checks, places_of_payload}
 use Rattle.rules.specs.Table.{fibre}
@@ -10,9 +7,6 @@ use Rattle.laws.proofs.Bits.{mid_rest}
 use Rattle.laws.proofs.Parities.{payload_found}
 use Rattle.running.proofs.Blocks.{first_blocks}
 use Rattle.word.proofs.write_parity.Goals as goal
-
-pub solve-requires : goal.solve-requires
-solve-requires c = (search rules, simp (length-take, length-drop) (omega arith))
 
 pub returns : goal.returns
 returns c =

@@ -4,13 +4,14 @@ use Rattle.console.specs.Spelled.{value_of}
 use Rattle.console.proofs.Spelling.{begun_more}
 use Rattle.console.proofs.decimals.read.Goals as goal
 
-pub loop-i-init : goal.loop-i-init
+pub loop-byte-init : goal.loop-byte-init
 unfolding value_of
-loop-i-init c = (λ k h. absurd (omega arith), refl, omega arith)
+loop-byte-init c = (λ k h. absurd (omega arith), refl, omega arith)
 
-pub loop-i-preserved : goal.loop-i-preserved
-loop-i-preserved c =
+pub loop-byte-preserved : goal.loop-byte-preserved
+loop-byte-preserved c =
     let told = c.with_byte-number in
+    let passed = c.loop-byte.byte-index in
     let more =
-    begun_more c.loop-i.i c.args.text.now c.loop-i.number told.result c.loop-i.invariant told.ensures in
-    rw (add-one c.loop-i.i) more
+    begun_more passed c.args.text.now c.loop-byte.number told.result c.loop-byte.invariant told.ensures in
+    rw (add-one passed) more

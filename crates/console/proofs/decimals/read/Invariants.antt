@@ -2,5 +2,5 @@
 use Rattle.console.proofs.Spelling.{Begun}
 use Rattle.console.proofs.decimals.read.Given as goal
 
-abbrev pub invariant-loop-i : goal.invariant-loop-i
-invariant-loop-i l = Begun l.i l.text l.number
+abbrev pub invariant-loop-byte : goal.invariant-loop-byte
+invariant-loop-byte l = Begun l.byte-index l.text l.number

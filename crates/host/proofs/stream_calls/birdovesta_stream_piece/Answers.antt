@@ -2,6 +2,7 @@
 use mathlib.Core.Path.{refl, subst}
 use Rattle.rules.specs.Formats.{fibre_format}
 use Rattle.rules.specs.Promises.{PieceTaken}
+use Rattle.rules.specs.Answers.{outcome}
 use Rattle.rules.specs.declared.Stream.{Stream}
 use Rattle.host.proofs.States.{state_refused, state_piece}
 use Rattle.host.proofs.stream_calls.birdovesta_stream_piece.Goals as goal
@@ -11,9 +12,9 @@ returns-then-state-ne-BYTES c = state_refused c.args.state.now c.if-state-ne-BYT
 
 pub returns : goal.returns
 returns c =
-    let did = c.piece-outcome in
-    let made = c.read in
+    let did = c.piece-answered in
+    let o = outcome did.result did.new.stream in
     let a = c.args in
     let f = fibre_format a.first.now a.second.now in
-    state_piece c.if-state-ne-BYTES.false did.result c.hand_back.ensures f a.bits a.piece.now
-    (subst (λ (t : Stream). PieceTaken f a.bits a.piece.now t did.result) made.ensures did.ensures)
+    state_piece c.if-state-ne-BYTES.false o c.hand_back.ensures f a.bits a.piece.now
+    (subst (λ (t : Stream). PieceTaken f a.bits a.piece.now t o) c.read-stream.ensures did.ensures)

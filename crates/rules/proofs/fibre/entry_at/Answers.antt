@@ -5,4 +5,4 @@ use Rattle.rules.proofs.TableLaws.{fibre_fits, entry_read}
 use Rattle.rules.proofs.fibre.entry_at.Goals as goal
 
 pub returns : goal.returns
-returns c = rw c.copy_table.ensures (entry_read fibre fibre_fits c.args.i c.args.j (omega arith) (omega arith))
+returns c = rw c.table.ensures (entry_read fibre fibre_fits c.args.i c.args.j (omega arith) (omega arith))

@@ -1,5 +1,4 @@
 use borrow.Author.Rules.{rules}
-use mathlib.Core.Path.{◌≡◌}
 use Prim.Native.Nat.{◌+◌}
 use native.Mathlib.Omega.{arith}
 use lib.Dec.{lit<}
@@ -15,7 +14,7 @@ loop-j-init c =
 
 pub add_line-requires : goal.add_line-requires
 add_line-requires c =
-    let table = c.copy_table.ensures in
+    let table = c.table-table.ensures in
     let j = c.loop-j.j in
     let long = line_length fibre fibre_fits j (omega arith) in
     let same = c.loop-j.invariant.2.length_same in (
@@ -30,12 +29,7 @@ loop-j-preserved c =
     let w = c.args.word.now in
     let from = c.args.from in
     let j = c.loop-j.j in
-    let line = rw c.copy_table.ensures at c.add_line.ensures in
+    let line = rw c.table-table.ensures at c.add_line.ensures in
     let added = line_added fibre (lit< tt) w j (omega arith) line in
     let joined = blocks_join fibre (lit< tt) w from j (j + 1) (omega arith) (omega arith) c.loop-j.invariant.2 added in
     (search rules, search rules, joined)
-
-pub returns : goal.returns
-returns c =
-    let e : c.loop-j.j ≡ c.args.to = omega arith in
-    rw e at c.loop-j.invariant.2

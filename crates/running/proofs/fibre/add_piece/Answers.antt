@@ -1,23 +1,16 @@
 -- `running::fibre::add_piece` meets its contract: the piece stands alone among the outer places, and all inner ones are
 -- added.
-use borrow.Author.Rules.{rules}
 use mathlib.Core.Path.{refl}
 use native.Mathlib.Nat.{zero-add}
 use native.Mathlib.Omega.{arith}
-use lib.Dec.{lit≤}
 use Rattle.rules.specs.Bits.{bit, need, placed}
 use Rattle.rules.specs.Matrix.{places_of_payload}
 use Rattle.rules.specs.Table.{fibre}
 use Rattle.laws.proofs.Runs.{placed_above}
 use Rattle.laws.proofs.Running.{checks_as}
-use Rattle.lists.proofs.Shortened.{listed_names}
 use Rattle.running.proofs.Blocks.{piece_bit}
 use Rattle.running.proofs.Inner.{inner_blocks}
 use Rattle.running.proofs.fibre.add_piece.Goals as goal
-
-pub pick-requires : goal.pick-requires
-pick-requires c =
-    listed_names c.requires.3 _ _ (lit≤ tt) (search rules)
 
 pub returns : goal.returns
 returns c =

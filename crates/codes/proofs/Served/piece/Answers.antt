@@ -1,0 +1,6 @@
+-- The lists that the fibre code is lent are those of the pair.
+use Rattle.codes.proofs.Served.piece.Goals as goal
+
+pub returns-in-Fibre : goal.returns-in-Fibre
+returns-in-Fibre c =
+    rw (c.in-Fibre.is, ← c.split.ensures.first, ← c.split.ensures.second) c.piece.ensures
