@@ -7,6 +7,7 @@
 #![tactic(auto)]
 
 ghost use Rattle.std.specs.Prelude.{◌≡◌, cond, ◌+◌, ◌-◌, ◌*◌, ◌^◌, ◌≤◌, ◌<◌, min, length};
+ghost use Rattle.cuttings.specs.Tallies.{Tells};
 
 use rules::{Refusal, Stream, fibre};
 use std::array;
@@ -28,6 +29,9 @@ const ROOM: usize = 330;
 // What stands in a buffer before it is written to.
 const BLANK: u8 = 165;
 
+// How many facts the program tells.
+const FACTS: usize = 23;
+
 // How many facts were right, and how many wrong.
 #[derive(Drop)]
 struct Tally {
@@ -40,6 +44,7 @@ impl Tally {
     fn tell(&mut self, rt: &impl Print, is_right: bool, fact: impl Display + Drop)
         ensures right { self.new.right ≡ cond is_right (min (self.old.right + 1) (2 ^ 64 - 1)) self.old.right }
         ensures wrong { self.new.wrong ≡ cond is_right self.old.wrong (min (self.old.wrong + 1) (2 ^ 64 - 1)) }
+        ensures told { Tells 1 self.old self.new }
     {
         let word = if is_right {
             self.right = self.right.saturating_add(1);
@@ -186,6 +191,7 @@ fn try_cutting(
     pair: Pair,
 )
     requires { 0 < size }
+    ensures { Tells 2 tally.old tally.new }
 {
     let way = pair.feed_all(payload, size);
     tally.tell(
@@ -209,7 +215,9 @@ fn try_cuttings(
     tally: &mut Tally,
     first: &mut [u8; fibre::FIRST_BYTES],
     second: &mut [u8; fibre::SECOND_BYTES],
-) {
+)
+    ensures { Tells 20 tally.old tally.new }
+{
     let payload: Payload = array::from_fn(payload_byte);
     fill_reversed(first, fibre::PAYLOAD_PLACES as u16);
     fill_reversed(second, fibre::CHECKS as u16);
@@ -226,7 +234,9 @@ fn try_cuttings(
 }
 
 // Lesson: 14,392 held, and a piece of 0 bits, then of 1 bit.
-fn try_full(rt: &impl Print, tally: &mut Tally, pair: Pair) {
+fn try_full(rt: &impl Print, tally: &mut Tally, pair: Pair)
+    ensures { Tells 2 tally.old tally.new }
+{
     let full = Stream {
         number: fibre::NUMBER,
         held: fibre::PAYLOAD_MOST,
@@ -249,7 +259,9 @@ fn try_full(rt: &impl Print, tally: &mut Tally, pair: Pair) {
 }
 
 // Lesson: the finish of a fresh stream with delimiter 1,024.
-fn try_fresh(rt: &impl Print, tally: &mut Tally, pair: Pair) {
+fn try_fresh(rt: &impl Print, tally: &mut Tally, pair: Pair)
+    ensures { Tells 1 tally.old tally.new }
+{
     let mut stream = stream::begin();
     let mut written = [BLANK; fibre::TAIL_BYTES];
     let answer = pair.finish(&mut stream, 1024, &mut written);
@@ -273,6 +285,7 @@ fn main(rt: HostRuntime) {
     };
     try_full(&rt, &mut tally, plain);
     try_fresh(&rt, &mut tally, plain);
+    prove!(tally.right + tally.wrong == FACTS);
     let _ = println!(rt; "{} right", tally.right);
     let _ = println!(rt; "{} wrong", tally.wrong);
 }

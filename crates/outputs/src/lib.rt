@@ -68,7 +68,9 @@ fn read_link<R: System>(rt: &R, path: &[u8]) -> Result<PathBuf<R::A>, Trouble> {
 }
 
 // Where the link at a path leads, as text that is put into a room; none where it is no link.
-fn link<'a>(rt: &impl System, path: &[u8], room: &'a mut [u8]) -> Option<&'a [u8]> {
+fn link<'a>(rt: &impl System, path: &[u8], room: &'a mut [u8]) -> Option<&'a [u8]>
+    ensures { IfSome result (λ text. length text.now ≤ length room.old) }
+{
     let led = read_link(rt, path).ok()?;
     let words = led.as_str().as_bytes();
     if words.is_empty() || room.len() < words.len() {

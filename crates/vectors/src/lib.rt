@@ -5,7 +5,7 @@
 mod digits;
 mod words;
 
-ghost use Rattle.std.specs.Prelude.{◌≤◌, length, IfSome};
+ghost use Rattle.std.specs.Prelude.{◌≡◌, ◌/◌, ◌≤◌, length, take, IfSome};
 ghost use Rattle.codes.specs.Codes.{pair_bytes};
 
 use answers::{Said, Status};
@@ -77,7 +77,9 @@ fn is_right(served: Served, bits: usize, payload: &[u8], delimiter: usize, line:
 }
 
 // The bytes that so many digits take, two a byte.
-fn bytes_of(digits: usize, bytes: &[u8]) -> &[u8] {
+fn bytes_of(digits: usize, bytes: &[u8]) -> &[u8]
+    ensures { result.now ≡ take (digits / 2) bytes.now }
+{
     &bytes[..(digits / 2).min(bytes.len())]
 }
 
@@ -90,7 +92,9 @@ fn said(right: bool, vector: usize) -> Status {
 }
 
 // The lists, so many bytes, which were read into a room.
-fn listed(lists: usize, room: &[u8]) -> &[u8] {
+fn listed(lists: usize, room: &[u8]) -> &[u8]
+    ensures { result.now ≡ take lists room.now }
+{
     &room[..lists.min(room.len())]
 }
 
