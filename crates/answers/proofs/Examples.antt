@@ -5,8 +5,8 @@ use Rattle.rules.specs.declared.Cause.TheVariants.{Check}
 use Rattle.rules.specs.declared.Verdict.TheVariants.{Accepted, Rejected}
 use Rattle.std.specs.Prelude.{Ok}
 use Rattle.rules.specs.declared.Refusal.TheVariants as refusal
-use Rattle.answers.specs.declared.Said.TheVariants.{Judged, Written, Reordering, Held, PieceRefused}
-use Rattle.answers.specs.declared.Said.TheVariants.{PiecesRefused, Wrong}
+use Rattle.answers.specs.declared.Said.TheVariants.{Judged, Written, RefusedBy, Reordering, Held, PieceRefused}
+use Rattle.answers.specs.declared.Said.TheVariants.{PieceRefusedBy, PiecesRefused, Wrong}
 use Rattle.lines.specs.Texts.{text, digits_of, shown}
 use Rattle.answers.specs.Answers.{line_of}
 
@@ -31,6 +31,14 @@ held = refl
 refused : line_of (PieceRefused 3 refusal.Bytes) ≡ text "piece 3 refusal 2\n"
 unfolding digits_of
 refused = refl
+
+refused_by : line_of (PieceRefusedBy 3 2) ≡ text "piece 3 refusal 2\n"
+unfolding digits_of
+refused_by = refl
+
+boundary : line_of (RefusedBy 17) ≡ text "refusal 17\n"
+unfolding digits_of
+boundary = refl
 
 pieces : line_of (PiecesRefused 1) ≡ text "refused pieces 1\n"
 unfolding digits_of

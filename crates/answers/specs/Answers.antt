@@ -18,8 +18,9 @@ use Rattle.rules.specs.Answers.{number}
 use Rattle.rules.specs.declared.Refusal.{Refusal}
 use Rattle.rules.specs.declared.Verdict.{Verdict}
 use Rattle.answers.specs.declared.Said.{Said}
-use Rattle.answers.specs.declared.Said.TheVariants.{Judged, Written, Refused, Reordering, Held, PieceRefused}
-use Rattle.answers.specs.declared.Said.TheVariants.{PiecesRefused, RightVector, WrongVector, WrongLine}
+use Rattle.answers.specs.declared.Said.TheVariants.{Judged, Written, Refused, RefusedBy, Reordering, Held}
+use Rattle.answers.specs.declared.Said.TheVariants.{PieceRefused, PieceRefusedBy, PiecesRefused}
+use Rattle.answers.specs.declared.Said.TheVariants.{RightVector, WrongVector, WrongLine}
 use Rattle.answers.specs.declared.Said.TheVariants.{NoVectors, Right, Wrong}
 use Rattle.lines.specs.Texts.{text, new_line, fact, facts, tally}
 
@@ -35,9 +36,11 @@ abbrev pub line_of : Said → List ℕ
 line_of (Judged told) = judgement_line (judged told)
 line_of (Written bytes) = fact (text "written ") bytes
 line_of (Refused why) = fact (text "refusal ") (number why)
+line_of (RefusedBy number) = fact (text "refusal ") number
 line_of Reordering = text "reordering" ++ new_line
 line_of (Held piece bits) = facts (text "piece ") piece (text " held ") bits
 line_of (PieceRefused piece why) = facts (text "piece ") piece (text " refusal ") (number why)
+line_of (PieceRefusedBy piece number) = facts (text "piece ") piece (text " refusal ") number
 line_of (PiecesRefused count) = fact (text "refused pieces ") count
 line_of (RightVector number) = fact (text "right vector ") number
 line_of (WrongVector number) = fact (text "wrong vector ") number
@@ -55,9 +58,11 @@ abbrev pub status_of : Said → ℕ
 status_of (Judged told) = status_of_judgement (judged told)
 status_of (Written bytes) = 0
 status_of (Refused why) = 2
+status_of (RefusedBy number) = 2
 status_of Reordering = 0
 status_of (Held piece bits) = 0
 status_of (PieceRefused piece why) = 2
+status_of (PieceRefusedBy piece number) = 2
 status_of (PiecesRefused count) = 2
 status_of (RightVector number) = 0
 status_of (WrongVector number) = 1

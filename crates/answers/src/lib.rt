@@ -2,11 +2,12 @@
 // both, of every answer. So a line is no `Display`, whose text is promised only where its writer took it.
 #![tactic(auto)]
 
-ghost use Rattle.std.specs.Prelude.{◌≡◌, ◌≤◌, length};
+ghost use Rattle.std.specs.Prelude.{◌≡◌, ◌≤◌, cond, eqb, length, min};
 ghost use Rattle.rules.specs.Judgements.{Judged, judgement};
 ghost use Rattle.rules.specs.declared.Verdict.TheVariants.{Rejected};
-ghost use Rattle.answers.specs.declared.Said.TheVariants.{Refused};
+ghost use Rattle.answers.specs.declared.Said.TheVariants.{RefusedBy, PieceRefusedBy};
 ghost use Rattle.answers.specs.Answers.{judgement_line, line_of, status_of_judgement, status_of, lesson_line};
+ghost use Rattle.answers.specs.Answers.{trouble, lost};
 ghost use Rattle.answers.specs.Statuses.{number_of};
 
 use lines::Line;
@@ -15,14 +16,18 @@ use rules::{Cause, Refusal, Verdict};
 // What a check answers; a file was written; an operation was refused; both lists of a pair reorder their places; what
 // a stream holds after a piece, or why the piece was refused; how many were refused; what became of a vector; a line of
 // vectors that is not as expected; totals.
+// An operation, or a piece, is refused by a `Refusal`, or else by any number: who refuses may have numbers of its own,
+// as the C boundary has 17. By the number of a `Refusal` the answer is the same (`refused_by`, `piece_refused_by`).
 #[derive(Clone, Copy)]
 pub enum Said {
     Judged(Result<Verdict, Refusal>),
     Written(usize),
     Refused(Refusal),
+    RefusedBy(usize),
     Reordering,
     Held { piece: usize, bits: usize },
     PieceRefused { piece: usize, why: Refusal },
+    PieceRefusedBy { piece: usize, number: usize },
     PiecesRefused(usize),
     RightVector(usize),
     WrongVector(usize),
@@ -64,10 +69,16 @@ fn verdict(told: Verdict) -> Line
     }
 }
 
-fn refusal(why: Refusal) -> Line
-    ensures { result ≡ line_of (Refused why) }
+fn refusal(number: usize) -> Line
+    ensures { result ≡ line_of (RefusedBy number) }
 {
-    lines::one(b"refusal ", why.number())
+    lines::one(b"refusal ", number)
+}
+
+fn piece_refusal(piece: usize, number: usize) -> Line
+    ensures { result ≡ line_of (PieceRefusedBy piece number) }
+{
+    lines::two(b"piece ", piece, b" refusal ", number)
 }
 
 // The line of an answer.
@@ -76,17 +87,14 @@ pub fn line(said: Said) -> Line
 {
     match said {
         Said::Judged(Ok(told)) => verdict(told),
-        Said::Judged(Err(why)) => refusal(why),
+        Said::Judged(Err(why)) => refusal(why.number()),
         Said::Written(bytes) => lines::one(b"written ", bytes),
-        Said::Refused(why) => refusal(why),
+        Said::Refused(why) => refusal(why.number()),
+        Said::RefusedBy(number) => refusal(number),
         Said::Reordering => lines::plain(b"reordering", b""),
         Said::Held { piece, bits } => lines::two(b"piece ", piece, b" held ", bits),
-        Said::PieceRefused { piece, why } => lines::two(
-            b"piece ",
-            piece,
-            b" refusal ",
-            why.number(),
-        ),
+        Said::PieceRefused { piece, why } => piece_refusal(piece, why.number()),
+        Said::PieceRefusedBy { piece, number } => piece_refusal(piece, number),
         Said::PiecesRefused(count) => lines::one(b"refused pieces ", count),
         Said::RightVector(number) => lines::one(b"right vector ", number),
         Said::WrongVector(number) => lines::one(b"wrong vector ", number),
@@ -118,8 +126,23 @@ impl From<Said> for Status {
             Said::RightVector(_) | Said::NoVectors => Status::Fine,
             Said::Right(_) | Said::Wrong(0) => Status::Fine,
             Said::WrongVector(_) | Said::WrongLine(_) | Said::Wrong(_) => Status::Wrong,
-            Said::Refused(_) | Said::PieceRefused { .. } => Status::Refused,
-            Said::PiecesRefused(_) => Status::Refused,
+            Said::Refused(_) | Said::RefusedBy(_) | Said::PiecesRefused(_) => Status::Refused,
+            Said::PieceRefused { .. } | Said::PieceRefusedBy { .. } => Status::Refused,
+        }
+    }
+}
+
+// The exit status of a number. One that is no status's counts as trouble, so that it never passes for fine.
+impl From<u8> for Status {
+    ghost from_gives = { λ number status. number_of status ≡ cond (eqb number lost) lost (min number trouble) };
+
+    fn from(number: u8) -> Status {
+        match number {
+            0 => Status::Fine,
+            1 => Status::Wrong,
+            2 => Status::Refused,
+            4 => Status::Lost,
+            _ => Status::Trouble,
         }
     }
 }
