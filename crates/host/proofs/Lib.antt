@@ -1,3 +1,4 @@
 pub mod Fits
+pub mod Numbered
 pub mod Reading
 pub mod States

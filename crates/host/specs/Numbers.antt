@@ -9,6 +9,7 @@
 --   read_back r            the answer of a check that the number r tells, by the parts that the header names
 --   Answered P r           P holds of an answer whose number is r
 --   Judging P r            P holds of a check's answer whose number is r
+--   NumberedBy C x r       r is 0 where the result x is done, and else a number that its refusal becomes by C
 --   HostEncoded a b ..     what birdovesta_encode promises, by the lists a and b
 --   HostWord a b ..        what birdovesta_check_word promises
 --   HostLine a b ..        what birdovesta_check_line promises
@@ -17,6 +18,7 @@
 --
 -- Believe this file beside the paper; nothing here is proved.
 use Rattle.std.specs.Prelude.{◌≡◌, cond, List, ℕ, ◌+◌, ◌*◌, ◌/◌, ◌%◌, ◌^◌, ◌<◌, eqb, ltb}
+use Rattle.std.specs.Prelude.{Result, Ok, Err, ⊤}
 use Rattle.rules.specs.Formats.{fibre_format}
 use Rattle.rules.specs.Promises.{refusal_of, Encoded, WordChecked, LineChecked}
 use Rattle.rules.specs.Coax.{CoaxEncoded, CoaxChecked}
@@ -42,6 +44,10 @@ number_of_verdict (Rejected c) = number_of_cause c
 abbrev pub number_of_judgement : Judgement → ℕ
 number_of_judgement (Judged v) = number_of_verdict v
 number_of_judgement (Refused n) = n
+
+abbrev pub NumberedBy : {E : Type 0} → (E → ℕ → Type 0) → Result ⊤ E → ℕ → Type 0
+NumberedBy C (Ok x) r = r ≡ 0
+NumberedBy C (Err e) r = C e r
 
 -- place and count are each below 2^16, as wide as their parts of the number
 abbrev pub CauseFits : Cause → Type 0

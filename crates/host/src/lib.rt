@@ -7,20 +7,22 @@ pub mod stream_calls;
 
 ghost use Rattle.std.specs.Prelude.{◌≡◌};
 ghost use Rattle.host.specs.Numbers.{number_of_cause, number_of_verdict, number_of_judgement};
-ghost use Rattle.host.specs.Numbers.{CauseFits, VerdictFits, JudgementFits, HostEncoded, HostWord, HostLine};
+ghost use Rattle.host.specs.Numbers.{CauseFits, VerdictFits, JudgementFits, NumberedBy};
+ghost use Rattle.host.specs.Numbers.{HostEncoded, HostWord, HostLine};
 ghost use Rattle.rules.specs.Answers.{answer};
 ghost use Rattle.rules.specs.Promises.{refusal_of};
 ghost use Rattle.rules.specs.Judgements.{judgement};
 
 use rules::{Cause, Refusal, Verdict};
 
-// The number of an answer. The benchmark's calls, in `measured`, tell theirs by it too.
-pub fn answer_number(answered: Result<(), Refusal>) -> u64
-    ensures { result ≡ refusal_of (answer answered) }
+// The number of an answer, of the paper's refusals or of any that become numbers. The benchmark's calls, in `measured`,
+// tell theirs by it too.
+pub fn answer_number<E: Into<u64>>(answered: Result<(), E>) -> u64
+    ensures { NumberedBy E.converts answered result }
 {
     match answered {
         Ok(()) => 0,
-        Err(refusal) => refusal.number() as u64,
+        Err(refusal) => refusal.into(),
     }
 }
 

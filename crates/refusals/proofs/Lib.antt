@@ -1,1 +1,2 @@
+pub mod Refuses
 mod Unused

@@ -14,15 +14,16 @@ ghost use Rattle.rules.specs.Table.{fibre};
 ghost use Rattle.rules.specs.Formats.{fibre_format};
 ghost use Rattle.rules.specs.Refusals.{refusal, tells, with_unused_set, some_shortened, of_lists};
 ghost use Rattle.rules.specs.Refusals.{encode_order, complete_order, word_order, line_order};
-ghost use Rattle.rules.specs.Answers.{number, told};
+ghost use Rattle.rules.specs.Answers.{told};
 ghost use Rattle.rules.specs.Terms.{by_first};
 ghost use Rattle.lists.specs.Picked.{Tested};
+ghost use Rattle.refusals.specs.Tests.{Refuses};
 
 use rules::{Refusal, fibre};
 
 // A value that is above a limit: refusals 4 and 5.
-pub fn above(value: usize, limit: usize, why: Refusal) -> Result<(), Refusal>
-    ensures { tells (refusal (number why) (limit < value) ∷ []) (told result) }
+pub fn above<E: Copy>(value: usize, limit: usize, why: E) -> Result<(), E>
+    ensures { Refuses (limit < value) why result }
 {
     if limit < value {
         return Err(why);
@@ -31,8 +32,8 @@ pub fn above(value: usize, limit: usize, why: Refusal) -> Result<(), Refusal>
 }
 
 // A value that is another than it has to be: refusals 2, 10 and 12.
-pub fn differs(value: usize, other: usize, why: Refusal) -> Result<(), Refusal>
-    ensures { tells (refusal (number why) (value ≡ other → ⊥) ∷ []) (told result) }
+pub fn differs<E: Copy>(value: usize, other: usize, why: E) -> Result<(), E>
+    ensures { Refuses (value ≡ other → ⊥) why result }
 {
     if value != other {
         return Err(why);

@@ -50,6 +50,15 @@ impl Refusal {
     }
 }
 
+// The same, for whoever tells a refusal by a number.
+impl From<Refusal> for u64 {
+    ghost from_gives = { λ why told. told ≡ number why };
+
+    fn from(why: Refusal) -> u64 {
+        why.number() as u64
+    }
+}
+
 // The two coax codes: the longer has words of 16,200 bits, the shorter of 5,940.
 #[derive(Clone, Copy, PartialEq, Eq)]
 pub enum CoaxCode {
