@@ -35,12 +35,18 @@ fn fill<'a>(file: &mut impl Read, room: &'a mut [u8]) -> Result<&'a mut [u8], Tr
     Ok(&mut room[..size])
 }
 
-// Says why a file cannot be read or written. What is missing, what is not allowed and what else there may be differ
-// from the one to the other.
-pub fn trouble(why: Trouble, missing: &[u8], denied: &[u8], other: &[u8], name: &[u8]) -> Status
+// Says why a file cannot be read or written, by what is wrong or by Linux's number of it. What is missing, what is not
+// allowed and what else there may be differ from the one to the other.
+pub fn trouble(
+    why: impl Into<Trouble>,
+    missing: &[u8],
+    denied: &[u8],
+    other: &[u8],
+    name: &[u8],
+) -> Status
     ensures { number_of result ≡ trouble }
 {
-    let words = match why {
+    let words = match why.into() {
         Trouble::Missing | Trouble::NoFolder => missing,
         Trouble::Denied => denied,
         Trouble::Folder => b"is a folder",

@@ -99,7 +99,8 @@ fn digit(status: Status) -> u8
 }
 
 // Tells the exit status to the script. That answers were lost is said now, once.
-pub fn exit(status: Status) {
+pub fn exit(status: impl Into<Status>) {
+    let status = status.into();
     if status == Status::Lost {
         fault(b"answers lost: they could not be written");
     }

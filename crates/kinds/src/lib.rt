@@ -5,6 +5,8 @@
 pub mod linux;
 
 ghost use Rattle.std.specs.Prelude.{◌≡◌, ◌≤◌, ◌↔◌, length, IfOk, IsTrue};
+ghost use Rattle.std.specs.Fs.{file_type, metadata_mode};
+ghost use Rattle.kinds.specs.Types.{HasKind};
 
 use linux::Trouble;
 use std::fs::{File, FileType, Metadata};
@@ -22,6 +24,8 @@ pub enum Kind {
 }
 
 impl From<FileType> for Kind {
+    ghost from_gives = { HasKind };
+
     fn from(told: FileType) -> Kind {
         if told.is_file() {
             Kind::File
@@ -57,6 +61,8 @@ impl Known {
 }
 
 impl From<Metadata> for Known {
+    ghost from_gives = { λ answer known. HasKind (file_type answer) known.kind × (known.mode ≡ metadata_mode answer) };
+
     fn from(answer: Metadata) -> Known {
         Known {
             device: answer.dev(),

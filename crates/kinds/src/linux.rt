@@ -1,6 +1,7 @@
 // What may be wrong with a file, by Linux's numbers. std's ErrorKind has one kind for EPERM and EACCES, of which the
 // program says different words.
 ghost use Rattle.std.specs.Prelude.{◌≡◌, ◌↔◌, ◌⊎◌, IsTrue};
+ghost use Rattle.kinds.specs.Troubles.{trouble_of, trouble_in};
 
 use std::io::Error;
 
@@ -52,19 +53,30 @@ impl Trouble {
     }
 }
 
-impl From<Error> for Trouble {
-    fn from(error: Error) -> Trouble {
-        match error.raw_os_error() {
-            Some(ENOENT) => Trouble::Missing,
-            Some(ENOTDIR) => Trouble::NoFolder,
-            Some(EACCES | EROFS) => Trouble::Denied,
-            Some(EISDIR) => Trouble::Folder,
-            Some(EPERM) => Trouble::NotPermitted,
-            Some(EEXIST) => Trouble::InTheWay,
-            Some(ENOSPC | EFBIG) => Trouble::NoRoom,
-            Some(ELOOP) => Trouble::TooManyLinks,
-            Some(ENAMETOOLONG) => Trouble::LongName,
+// What a number means.
+impl From<i32> for Trouble {
+    ghost from_gives = { λ number why. why ≡ trouble_of number };
+
+    fn from(number: i32) -> Trouble {
+        match number {
+            ENOENT => Trouble::Missing,
+            ENOTDIR => Trouble::NoFolder,
+            EACCES | EROFS => Trouble::Denied,
+            EISDIR => Trouble::Folder,
+            EPERM => Trouble::NotPermitted,
+            EEXIST => Trouble::InTheWay,
+            ENOSPC | EFBIG => Trouble::NoRoom,
+            ELOOP => Trouble::TooManyLinks,
+            ENAMETOOLONG => Trouble::LongName,
             _ => Trouble::Other,
         }
+    }
+}
+
+impl From<Error> for Trouble {
+    ghost from_gives = { λ error why. why ≡ trouble_in error };
+
+    fn from(error: Error) -> Trouble {
+        error.raw_os_error().map_or(Trouble::Other, Trouble::from)
     }
 }

@@ -34,8 +34,8 @@ pub fn more(count: usize) -> usize
 
 // Counts what was right or wrong, and was said with this status. By value: the reading of a file of vectors holds a
 // tally that it hands on.
-pub fn count(tally: Tally, right: bool, status: Status) -> Tally
-    ensures { result ≡ counted tally right status }
+pub fn count<S: Into<Status>>(tally: Tally, right: bool, status: S) -> Tally
+    ensures { (said : Status) × S.converts status said × (result ≡ counted tally right said) }
 {
     let mut later = tally;
     if right {
@@ -43,7 +43,7 @@ pub fn count(tally: Tally, right: bool, status: Status) -> Tally
     } else {
         later.wrong = more(tally.wrong);
     }
-    later.status = tally.status.max(status);
+    later.status = tally.status.max(status.into());
     later
 }
 

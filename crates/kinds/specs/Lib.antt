@@ -1,0 +1,2 @@
+pub mod Troubles
+pub mod Types
