@@ -5,6 +5,12 @@
 --   Tested o xs         each of xs is what the test of a refusal of o tells, in order, if no refusal before it
 --                       applies: none, or test a rest, with what the first one tells
 --   told_tested         then the first of xs that is not 0 is what the order tells
+--   First o r           r is the first that is not 0 of such answers to the tests of o
+--   told_first          the other way: what an order tells is that first one
+--   first_told          both ways are one: what is that first one is what the order tells
+--   answer_first        so what an operation answers by a promise, a refusal's number or 0 where it is done, is the
+--                       first of its order's tests that is not 0
+--   checked_first       the same of a check
 --   told_left           where none is told, the first refusal does not apply, and none of the rest is told
 --   refusal_of_law o k  when the refusal numbered k of the order o applies
 --   numbers_pass f o    every number of the order o passes the test f
@@ -26,7 +32,7 @@ use native.Mathlib.Omega.{arith}
 use lib.Dec.{T, eqb, ltb, lit<}
 use borrow.Author.Tests.{eq-eqb, ne_eqb}
 use Rattle.rules.specs.Refusals.{Refusal, tells}
-use Rattle.rules.specs.Promises.{refusal_of, by, Promise, Checked}
+use Rattle.rules.specs.Promises.{refusal_of, refusal_in, by, Promise, Checked}
 use Rattle.rules.specs.Terms.{first_of, FirstTold}
 use Rattle.rules.specs.Answers.{Answer}
 use Rattle.rules.specs.Answers.{Done, Refused}
@@ -88,6 +94,43 @@ tested_first h (test {t} {o} {x} {xs} p q) =
 pub told_tested : (o : List Refusal) {xs : List ℕ} {r : ℕ} → T (numbered o) → FirstTold xs r → Tested o xs → tells o r
 told_tested o h e p = rw e.same (tested_first h p)
 
+pub record First (o : List Refusal) (r : ℕ) : Type 1 where
+  pub answers : List ℕ
+  pub tested : Tested o answers
+  pub first : FirstTold answers r
+
+-- one answer that is not 0 is the first, and one that is 0 is no answer
+one_first : (r : ℕ) → r ≡ first_of (r ∷ [])
+unfolding first_of
+one_first r = elim (ℕ_discrete r 0) [
+  | yes e ↦ rw (eq-eqb r 0 e) e
+  | no d ↦ rw (ne_eqb r 0 d) refl
+]
+
+-- an answer of 0 is passed over
+none_first : (xs : List ℕ) → first_of xs ≡ first_of (0 ∷ xs)
+unfolding first_of
+none_first xs = refl
+
+pub told_first : (o : List Refusal) {r : ℕ} → tells o r → First o r
+unfolding first_of
+told_first [] e = record { answers = []; tested = none; first = record { same = e } }
+told_first (t ∷ o) {r} x =
+    ⊎_elim
+    (λ a. record {
+      answers = r ∷ [];
+      tested = test (inl a) (λ passed. absurd (passed a.0));
+      first = record { same = one_first r };
+    })
+    (λ b. let rest = told_first o {r = r} b.1 in record {
+      answers = 0 ∷ rest.answers;
+      tested = test (inr (b.0, refl)) (λ passed. rest.tested);
+      first = record { same = rest.first.same ∙ none_first rest.answers };
+    }) x
+
+pub first_told : (o : List Refusal) {r : ℕ} → T (numbered o) → First o r → tells o r
+first_told o h x = told_tested o h x.first x.tested
+
 -- a statement chosen by a test is false where both are
 neither : (b : Bool) (A B : Type 0) → (A → ⊥) → (B → ⊥) → cond b A B → ⊥
 neither true A B f g = f
@@ -129,6 +172,12 @@ module _ {O : Type 0} (G P Q : O → Type 0) (done : (v v' : O) → G v → G v'
   promise_same o a b v v' g g' x y =
       outcome_same a b v v' (told_single o (refusal_of a) (refusal_of b) x.told y.told) g g' x.effect
       y.effect
+
+pub answer_first : (o : List Refusal) {a : Answer} {A B : Type 0} → Promise o a A B → First o (refusal_of a)
+answer_first o x = told_first o x.told
+
+pub checked_first : (o : List Refusal) {P : Verdict → Type 0} {j : Judgement} → Checked o P j → First o (refusal_in j)
+checked_first o x = told_first o x.told
 
 module _ (o : List Refusal) (P : Verdict → Type 0) (one : (v v' : Verdict) → P v → P v' → v ≡ v') where
   pub checked_same : (j j' : Judgement) → Checked o P j → Checked o P j' → j ≡ j'
