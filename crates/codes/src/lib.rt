@@ -44,11 +44,14 @@ pub fn find(name: &[u8]) -> Option<CoaxCode>
     }
 }
 
-// The bytes of a buffer that so many bits take.
+// The bytes of a buffer that so many bits take. No word has more bits than the fibre code's full word; more take none.
 pub fn bytes_of(bits: usize, buffer: &[u8]) -> &[u8]
     ensures front { StartsWith buffer.now result.now }
     ensures within { length result.now ≤ length buffer.now }
 {
+    if rules::fibre::PLACES < bits {
+        return &buffer[..0];
+    }
     &buffer[..bits::needed(bits).min(buffer.len())]
 }
 

@@ -17,10 +17,11 @@ pub fn fails(row: usize, count: usize) -> Result<Verdict, Refusal>
     Ok(Verdict::Rejected(Cause::Check { row, count }))
 }
 
-// Sets the bit at a place that the bytes have.
+// Sets the bit at a place that the bytes have: a run of one bit is added, so that a place outside of what was cleared,
+// or one that is named twice, is no bit that is set.
 pub fn set(bytes: &mut [u8], place: usize) {
-    if let Some(byte) = bytes.get_mut(place / 8) {
-        *byte |= 1 << (place % 8);
+    if place / 8 < bytes.len() {
+        bits::add_run(bytes, place, b"\x01", 0, 1);
     }
 }
 
