@@ -55,6 +55,6 @@ pub fn solve(code: CoaxCode, checks: &[u8], parity: &mut [u8])
     let mut registers = [0u8; REGISTER_BYTES];
     bits::add_run(&mut registers, 0, checks, 0, all);
     solving::follow(&mut registers, size, recipe);
-    parity.fill(0);
+    bits::clear(parity, parity.len());
     bits::add_run(parity, 0, &registers, all, all);
 }

@@ -23,7 +23,7 @@ add_piece-requires c =
     let asked = piece_asked f none a.stream.now a.count a.bytes.now (c.piece_alone.ensures f c.limits.ensures) in
     let long : stream_bytes ≡ length a.stream.now.checks = search rules in (
       omega (arith, long, (coax_numbers a.code).size),
-      asked.most,
+      omega (arith, asked.most),
       omega (arith, asked.piece.bytes),
     )
 
